@@ -2,8 +2,8 @@
 use crate::values::ANY;
 use config_values::{Config, Ends, RowConfig};
 use gate_config::{
-    AlertConfig, Quantities, QuantityConfig, Settings, Setup, WatchConfig, read, read_all,
-    read_whole,
+    AlertConfig, NavConfig, Quantities, QuantityConfig, Settings, Setup, WatchConfig, read,
+    read_all, read_whole,
 };
 use n2k_id::{Name, Pattern};
 use readings::all_rows;
@@ -83,6 +83,8 @@ fn is_alone(setup: &Setup) -> bool {
         && setup.plain.is_none()
         && setup.plain_every_ms == 0
         && !setup.record
+        && setup.heading.is_none()
+        && setup.nav.is_none()
         && is_unwatched(&setup.watch)
         && setup.heartbeat.net.is_none()
         && setup.heartbeat.bus_every_s.is_none()
@@ -309,6 +311,80 @@ fn has_beats(
 fn heartbeat_keys(rt: HostRuntime) {
     assert!(rt; has_beats(rt.alloc(), USUAL_BEATS, b"MISC", 60, *b"II", None));
     assert!(rt; has_beats(rt.alloc(), BEATS, b"BEAT", 999, *b"EI", Some(1)));
+}
+
+/// The group of legs alone, behind the own keys.
+const USUAL_LEGS: &str = r#"gateway.name = "C0328200FFC00001"
+gateway.address = 251
+gateway.sfi = "II0001"
+nav.group = "NAVG"
+"#;
+
+/// Each of their keys.
+const LEGS: &str = r#"gateway.name = "C0328200FFC00001"
+gateway.address = 251
+gateway.sfi = "II0001"
+[nav]
+group = "PILT"
+slots = 256
+sources = ["class=60"]
+others = false
+timeout_ms = 60000
+talker = "EI"
+"#;
+
+const PLOTTERS: Pattern = Pattern {
+    class: Some(60),
+    ..ANY
+};
+
+/// Whether legs are as their group alone says.
+fn is_usual_nav(nav: &NavConfig) -> bool {
+    Some(nav.group) == Group::of(b"NAVG")
+        && nav.slots == 16
+        && nav.legs.sources.is_empty()
+        && nav.legs.others
+        && nav.legs.timeout_ms == 2_500
+        && nav.legs.talker == *b"GP"
+}
+
+/// Whether they are as `LEGS` says.
+fn is_named_nav(nav: &NavConfig) -> bool {
+    Some(nav.group) == Group::of(b"PILT")
+        && nav.slots == 256
+        && nav.legs.sources.as_slice() == [PLOTTERS].as_slice()
+        && !nav.legs.others
+        && nav.legs.timeout_ms == 60_000
+        && nav.legs.talker == *b"EI"
+}
+
+/// How legs are said that a file configures, where it is accepted.
+fn nav_of(alloc: Global, file: &str) -> Option<NavConfig> {
+    match read_whole(alloc, file.as_bytes()) {
+        Ok(setup) => setup.nav,
+        Err(_) => None,
+    }
+}
+
+fn has_usual_nav(alloc: Global) -> bool {
+    match &nav_of(alloc, USUAL_LEGS) {
+        Some(nav) => is_usual_nav(nav),
+        None => false,
+    }
+}
+
+fn has_named_nav(alloc: Global) -> bool {
+    match &nav_of(alloc, LEGS) {
+        Some(nav) => is_named_nav(nav),
+        None => false,
+    }
+}
+
+/// With their group alone, legs have their defaults.
+#[test]
+fn nav_keys(rt: HostRuntime) {
+    assert!(rt; has_usual_nav(rt.alloc()));
+    assert!(rt; has_named_nav(rt.alloc()));
 }
 
 /// The talker of each quantity, in their order.

@@ -26,14 +26,15 @@ use Rattle.sentence_profile.specs.declared.optional.OptionalSentences.{OptionalS
 use Rattle.sentence_profile.specs.Reading.{usual as usual_sentences}
 use Rattle.gate_config.specs.Alone.{FileAsksNothingFurther, AsksNothingFurther, FilesSaySettings, HasNone, IsTable, KeysSaySettings, Lacks, NoneHas, alone_of}
 use Rattle.gate_config.specs.ConfigOf.{IsWholeConfigOf, config_in, document_place, known, settings_alone}
-use Rattle.gate_config.specs.Keys.{alerts, any_asks, asks as asked_for, asks_hbt, asks_heading, bus, devices, further, gateway, hbt, heading, heartbeat, ignored, is_asked, limit_at, limit_of, limits_in, links_in, net, optional, own_group, own_group_at, pace, part_groups, plain, preset, quantities_in, quantity, quantity_at, quantity_of, report, row, row_at, row_of, rows_in, serve, settings_in, setup_in, stands_at, watch_in, watched}
+use Rattle.gate_config.specs.Keys.{alerts, any_asks, asks as asked_for, asks_as_quantity, asks_hbt, bus, devices, further, gateway, hbt, heading, heartbeat, ignored, is_asked, limit_at, limit_of, limits_in, links_in, nav, net, optional, own_group, own_group_at, pace, part_groups, plain, preset, quantities_in, quantity, quantity_at, quantity_of, report, row, row_at, row_of, rows_in, serve, settings_in, setup_in, stands_at, watch_in, watched}
 use Rattle.gate_config.specs.Reading.{◌>>=◌, Table, default, each_from, items_in, key_prefix, prefix_of, section_at, table_in, unless}
 use Rattle.gate_config.specs.Unknown.{first_unknown, place_under, quantity_names, row_names, table_of}
 use Rattle.settings.specs.Heartbeat.{no_heartbeat}
-use Rattle.settings.specs.Setup.{alone, heading_group}
+use Rattle.settings.specs.Setup.{alone, heading_group, nav_group}
 use Rattle.settings.specs.declared.heading.HeadingConfig.{HeadingConfig}
 use Rattle.settings.specs.declared.heartbeat.HeartbeatConfig.{HeartbeatConfig}
 use Rattle.settings.specs.declared.heartbeat.NetHeartbeat.{NetHeartbeat}
+use Rattle.settings.specs.declared.nav.NavConfig.{NavConfig}
 use Rattle.settings.specs.declared.quantity_config.Quantities.{Quantities}
 use Rattle.settings.specs.declared.quantity_config.QuantityConfig.{QuantityConfig}
 use Rattle.settings.specs.declared.settings.Settings.{Settings}
@@ -189,7 +190,7 @@ heartbeat_read rows parts place none =
     two_keys (λ net bus_every. record { net = net; bus_every_s = bus_every }) (hbt.read (rows, parts) place) (number_at 1 60 place (codes "bus_every_s")) None None
     (hbt_read rows parts place (none.0, (none.1.0, (none.1.1.0, tt)))) (nothing_at (number_in 1 60) place (codes "bus_every_s") none.1.1.1.0)
 
--- ---- joined headings
+-- ---- joined headings, and the legs of plotters
 
 four_keys :
     {A B C D E : Type 0} (make : A → B → C → D → E) (first : Result A ConfigFault) (second : Result B ConfigFault) (third : Result C ConfigFault)
@@ -204,34 +205,47 @@ unfolding unless
 devices_at place name none = rw none refl
 
 -- a quantity of which no key stands is configured as ever
-abbrev usual : List ℕ → QuantityConfig
-usual talker = record { sources = record { items = [] }; others = true; timeout_ms = usual_timeout; talker = talker }
+abbrev usual : List ℕ → ℕ → QuantityConfig
+usual talker timeout = record { sources = record { items = [] }; others = true; timeout_ms = timeout; talker = talker }
 
-taken_read : (talker : List ℕ) (place : Place) → NoneIn place quantity.known → quantity.read talker place ≡ Ok (usual talker)
+taken_read : (talker : List ℕ) (timeout : ℕ) (place : Place) → NoneIn place quantity.known → quantity.read (talker, timeout) place ≡ Ok (usual talker timeout)
 unfolding quantity
-taken_read talker place none =
+taken_read talker timeout place none =
     let other : Talker = record { 0 = talker } in
     four_keys (λ sources others timeout talker. record { sources = sources; others = others; timeout_ms = timeout; talker = talker.0 })
-    (devices place (codes "sources")) (default true truth_at place (codes "others")) (default usual_timeout (number_at 100 60000) place (codes "timeout_ms"))
-    (default other (text_at talker_in) place (codes "talker")) (record { items = [] }) true usual_timeout other
+    (devices place (codes "sources")) (default true truth_at place (codes "others")) (default timeout (number_at 100 60000) place (codes "timeout_ms"))
+    (default other (text_at talker_in) place (codes "talker")) (record { items = [] }) true timeout other
     (devices_at place (codes "sources") none.0)
     (default_at true truth_in place (codes "others") none.1.0)
-    (default_at usual_timeout (number_in 100 60000) place (codes "timeout_ms") none.1.1.0)
+    (default_at timeout (number_in 100 60000) place (codes "timeout_ms") none.1.1.0)
     (default_at other (text_in talker_in) place (codes "talker") none.1.1.1.0)
 
-heading_unasked : (place : Place) → NoneIn place heading.known → asks_heading place ≡ false
-unfolding heading quantity
-heading_unasked place none = rw (none.1.0, none.1.1.0, none.1.1.1.0, none.1.1.1.1.0, none.1.1.1.1.1.0) refl
+unasked : (own : List ℕ) (place : Place) → get_member own place.members ≡ None → NoneIn place quantity.known → asks_as_quantity own place ≡ false
+unfolding quantity
+unasked own place none others = rw (none, others.0, others.1.0, others.1.1.0, others.1.1.1.0) refl
 
 heading_read : (rows : List RowConfig) (parts : List (Option (List ℕ))) (place : Place) → NoneIn place heading.known → heading.read (rows, parts) place ≡ Ok None
 unfolding heading quantity
 heading_read rows parts place none =
+    let taken : NoneIn place quantity.known = (none.1.0, (none.1.1.0, (none.1.1.1.0, (none.1.1.1.1.0, tt)))) in
+    let asks = asks_as_quantity (codes "hdm") in
     three_keys (λ group taken hdm. option_map (λ g. record { group = g; variation = taken; hdm = hdm }) group)
-    (own_group_at rows parts asks_heading place (codes "group")) (quantity.read (codes "HC") place) (default false truth_at place (codes "hdm"))
-    None (usual (codes "HC")) false
-    (group_at rows parts asks_heading place (codes "group") none.0 (heading_unasked place none))
-    (taken_read (codes "HC") place (none.1.0, (none.1.1.0, (none.1.1.1.0, (none.1.1.1.1.0, tt)))))
+    (own_group_at rows parts asks place (codes "group")) (quantity.read (codes "HC", usual_timeout) place) (default false truth_at place (codes "hdm"))
+    None (usual (codes "HC") usual_timeout) false
+    (group_at rows parts asks place (codes "group") none.0 (unasked (codes "hdm") place none.1.1.1.1.1.0 taken))
+    (taken_read (codes "HC") usual_timeout place taken)
     (default_at false truth_in place (codes "hdm") none.1.1.1.1.1.0)
+
+nav_read : (rows : List RowConfig) (parts : List (Option (List ℕ))) (place : Place) → NoneIn place nav.known → nav.read (rows, parts) place ≡ Ok None
+unfolding nav quantity
+nav_read rows parts place none =
+    let asks = asks_as_quantity (codes "slots") in
+    three_keys (λ group slots taken. option_map (λ g. record { group = g; slots = slots; legs = taken }) group)
+    (own_group_at rows parts asks place (codes "group")) (default 16 (number_at 1 256) place (codes "slots")) (quantity.read (codes "GP", 2500) place)
+    None 16 (usual (codes "GP") 2500)
+    (group_at rows parts asks place (codes "group") none.0 (unasked (codes "slots") place none.1.0 none.1.1))
+    (default_at 16 (number_in 1 256) place (codes "slots") none.1.0)
+    (taken_read (codes "GP") 2500 place none.1.1)
 
 -- ---- further quantities
 
@@ -261,18 +275,18 @@ quantities_among : (document : Place) → Lacks further.name (further.known ++ q
 unfolding further
 quantities_among document lacks = lacks.none.1.1.1
 
-quantity_read : (place : Place) (q : Quantity) → get_member (about_quantity q).name place.members ≡ None → quantity_of place q ≡ Ok (usual (about_quantity q).talker)
+quantity_read : (place : Place) (q : Quantity) → get_member (about_quantity q).name place.members ≡ None → quantity_of place q ≡ Ok (usual (about_quantity q).talker usual_timeout)
 unfolding quantity_at quantity default unless
 quantity_read place q none =
     let name = (about_quantity q).name in
     let prefix = key_prefix (codes "further.") name in
-    ap (λ found. (held (λ value. kind (as_table value)) (path_of place name) found >>= λ x. Ok (placed prefix (unwrap_or x no_members))) >>= quantity.read (about_quantity q).talker) none
+    ap (λ found. (held (λ value. kind (as_table value)) (path_of place name) found >>= λ x. Ok (placed prefix (unwrap_or x no_members))) >>= quantity.read ((about_quantity q).talker, usual_timeout)) none
 
 each_read : (place : Place) (all : List Quantity) (earlier : List QuantityConfig) → NoneIn place (quantity_names all)
     → (each : List QuantityConfig) × (each_from (quantity_of place) earlier all ≡ Ok each)
 each_read place [] earlier none = (earlier, refl)
 each_read place (q ∷ all) earlier none =
-    let x = usual (about_quantity q).talker in
+    let x = usual (about_quantity q).talker usual_timeout in
     let more = each_read place all (earlier ++ x ∷ []) none.1 in
     (more.0, then_says (quantity_of place q) (λ x. each_from (quantity_of place) (earlier ++ x ∷ []) all) x (Ok more.0) (quantity_read place q none.0) more.1)
 
@@ -353,8 +367,8 @@ bound (Ok x) next y is = (x, (refl, is))
 bound (Err f) next y is = absurd cc
 
 abbrev set_up : Settings → ArrayVec Pattern → Option Quantities → Bool × Bool → Option (List ℕ) → Bool → ℕ → OptionalSentences → Option HeadingConfig
-    → WatchConfig → HeartbeatConfig → Setup
-set_up settings devices quantities reports group recording every sentences joined watch beats = record {
+    → Option NavConfig → WatchConfig → HeartbeatConfig → Setup
+set_up settings devices quantities reports group recording every sentences joined legs watch beats = record {
   settings = settings;
   ignore = devices;
   optional_sentences = sentences;
@@ -365,6 +379,7 @@ set_up settings devices quantities reports group recording every sentences joine
   plain_every_ms = every;
   «record» = recording;
   heading = joined;
+  nav = legs;
   watch = watch;
   heartbeat = beats;
 }
@@ -376,21 +391,27 @@ module _ (document : Place) (settings : Settings) where
   abbrev groups : List (Option (List ℕ))
   groups = part_groups settings
 
-  abbrev from_heartbeat : ArrayVec Pattern → Option Quantities → Bool × Bool → Option (List ℕ) → Bool → ℕ → OptionalSentences → Option HeadingConfig → WatchConfig
-      → Result Setup ConfigFault
-  from_heartbeat devices quantities reports group recording every sentences joined watch =
-      table_in heartbeat (rows, alert_group watch ∷ heading_group joined ∷ group ∷ option_map (λ q. q.group) quantities ∷ groups) document
-      >>= λ beats. Ok (set_up settings devices quantities reports group recording every sentences joined watch beats)
+  abbrev from_heartbeat : ArrayVec Pattern → Option Quantities → Bool × Bool → Option (List ℕ) → Bool → ℕ → OptionalSentences → Option HeadingConfig → Option NavConfig
+      → WatchConfig → Result Setup ConfigFault
+  from_heartbeat devices quantities reports group recording every sentences joined legs watch =
+      table_in heartbeat (rows, alert_group watch ∷ nav_group legs ∷ heading_group joined ∷ group ∷ option_map (λ q. q.group) quantities ∷ groups) document
+      >>= λ beats. Ok (set_up settings devices quantities reports group recording every sentences joined legs watch beats)
 
-  abbrev from_watch : ArrayVec Pattern → Option Quantities → Bool × Bool → Option (List ℕ) → Bool → ℕ → OptionalSentences → Option HeadingConfig
+  abbrev from_watch : ArrayVec Pattern → Option Quantities → Bool × Bool → Option (List ℕ) → Bool → ℕ → OptionalSentences → Option HeadingConfig → Option NavConfig
       → Result Setup ConfigFault
-  from_watch devices quantities reports group recording every sentences joined =
-      watch_in rows (heading_group joined ∷ group ∷ option_map (λ q. q.group) quantities ∷ groups) document
-      >>= from_heartbeat devices quantities reports group recording every sentences joined
+  from_watch devices quantities reports group recording every sentences joined legs =
+      watch_in rows (nav_group legs ∷ heading_group joined ∷ group ∷ option_map (λ q. q.group) quantities ∷ groups) document
+      >>= from_heartbeat devices quantities reports group recording every sentences joined legs
+
+  abbrev from_nav : ArrayVec Pattern → Option Quantities → Bool × Bool → Option (List ℕ) → Bool → ℕ → OptionalSentences → Option HeadingConfig
+      → Result Setup ConfigFault
+  from_nav devices quantities reports group recording every sentences joined =
+      table_in nav (rows, heading_group joined ∷ group ∷ option_map (λ q. q.group) quantities ∷ groups) document
+      >>= from_watch devices quantities reports group recording every sentences joined
 
   abbrev from_heading : ArrayVec Pattern → Option Quantities → Bool × Bool → Option (List ℕ) → Bool → ℕ → OptionalSentences → Result Setup ConfigFault
   from_heading devices quantities reports group recording every sentences =
-      table_in heading (rows, group ∷ option_map (λ q. q.group) quantities ∷ groups) document >>= from_watch devices quantities reports group recording every sentences
+      table_in heading (rows, group ∷ option_map (λ q. q.group) quantities ∷ groups) document >>= from_nav devices quantities reports group recording every sentences
 
   abbrev from_optional : ArrayVec Pattern → Option Quantities → Bool × Bool → Option (List ℕ) → Bool → ℕ → Result Setup ConfigFault
   from_optional devices quantities reports group recording every = table_in optional tt document >>= from_heading devices quantities reports group recording every
@@ -433,14 +454,17 @@ module _ (document : Place) (settings : Settings) where
       (said_there pace tt document 0 (plain_among document asks.plain) (pace_read _ (plain_lacks document asks.plain)))
       (then_says (table_in optional tt document) (from_heading nobody None (false, false) None false 0) usual_sentences all
       (said_there optional tt document usual_sentences network (optional_read _ asks.optional))
-      (then_says (table_in heading (rows, None ∷ None ∷ groups) document) (from_watch nobody None (false, false) None false 0 usual_sentences) None all
+      (then_says (table_in heading (rows, None ∷ None ∷ groups) document) (from_nav nobody None (false, false) None false 0 usual_sentences) None all
       (said_there heading (rows, None ∷ None ∷ groups) document None asks.heading.is_table (heading_read rows (None ∷ None ∷ groups) _ asks.heading.none))
-      (then_says (watch_in rows (None ∷ None ∷ None ∷ groups) document) (from_heartbeat nobody None (false, false) None false 0 usual_sentences None) no_watch all
-      (watch_read rows (None ∷ None ∷ None ∷ groups) document tables asks.limits asks.alerts)
-      (then_says (table_in heartbeat (rows, None ∷ None ∷ None ∷ None ∷ groups) document) (λ beats. Ok (set_up settings nobody None (false, false) None false 0 usual_sentences None no_watch beats)) no_heartbeat all
-      (said_there heartbeat (rows, None ∷ None ∷ None ∷ None ∷ groups) document no_heartbeat asks.heartbeat.is_table
-      (heartbeat_read rows (None ∷ None ∷ None ∷ None ∷ groups) _ asks.heartbeat.none))
-      refl)))))))))
+      (then_says (table_in nav (rows, None ∷ None ∷ None ∷ groups) document) (from_watch nobody None (false, false) None false 0 usual_sentences None) None all
+      (said_there nav (rows, None ∷ None ∷ None ∷ groups) document None asks.nav.is_table (nav_read rows (None ∷ None ∷ None ∷ groups) _ asks.nav.none))
+      (then_says (watch_in rows (None ∷ None ∷ None ∷ None ∷ groups) document) (from_heartbeat nobody None (false, false) None false 0 usual_sentences None None) no_watch all
+      (watch_read rows (None ∷ None ∷ None ∷ None ∷ groups) document tables asks.limits asks.alerts)
+      (then_says (table_in heartbeat (rows, None ∷ None ∷ None ∷ None ∷ None ∷ groups) document)
+      (λ beats. Ok (set_up settings nobody None (false, false) None false 0 usual_sentences None None no_watch beats)) no_heartbeat all
+      (said_there heartbeat (rows, None ∷ None ∷ None ∷ None ∷ None ∷ groups) document no_heartbeat asks.heartbeat.is_table
+      (heartbeat_read rows (None ∷ None ∷ None ∷ None ∷ None ∷ groups) _ asks.heartbeat.none))
+      refl))))))))))
 
 -- settings that were read had a table of the bus, or none, and one of the network, or none
 table_among : (document : Place) (name prefix : List ℕ) (place : Place) → section_at document name prefix ≡ Ok place → IsTable (get_member name document.members)

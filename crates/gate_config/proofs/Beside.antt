@@ -19,7 +19,7 @@ use Rattle.config_values.specs.declared.row_config.RowConfig.{RowConfig}
 use Rattle.network_routes.specs.declared.Route.{Route}
 use Rattle.config_values.specs.Rows.{AreSources}
 use Rattle.settings.specs.Heartbeat.{IsHeartbeat}
-use Rattle.settings.specs.Setup.{AreQuantities, IsAlertGroup, IsFurtherGroup, IsHeading, IsHeadingGroup, IsHeartbeatGroup, IsPlainGroup, IsSetup, heading_group}
+use Rattle.settings.specs.Setup.{AreQuantities, IsAlertGroup, IsFurtherGroup, IsHeading, IsHeadingGroup, IsHeartbeatGroup, IsNav, IsNavGroup, IsPlainGroup, IsSetup, heading_group, nav_group}
 use Rattle.settings.specs.Settings.{IsAis, IsSettings}
 use Rattle.settings.specs.declared.ais.AisConfig.{AisConfig}
 use Rattle.settings.specs.declared.quantity_config.Quantities.{Quantities}
@@ -127,28 +127,44 @@ plain_beside s quantities group beside = record {
   from_quantities = λ q is. beside.from_parts 0 None (omega arith) q.group (ap (option_map (λ (q : Quantities). q.group)) is);
 }
 
+-- a group beside these is beside all but the first of them
+beside_fewer : (rows : List RowConfig) (part : Option (List ℕ)) (parts : List (Option (List ℕ))) (group : List ℕ) → IsGroupBeside rows (part ∷ parts) group
+    → IsGroupBeside rows parts group
+beside_fewer rows part parts group beside = record {
+  from_rows = beside.from_rows;
+  from_parts = λ k d within. beside.from_parts (suc k) d (omega (arith, within));
+}
+
 -- besides, beside the group of plain sentences
 heading_beside :
     (s : Settings) (quantities : Option Quantities) (plain : Option (List ℕ)) (group : List ℕ)
     → IsGroupBeside s.config.rows (plain ∷ option_map (λ q. q.group) quantities ∷ part_groups s) group → IsHeadingGroup s quantities plain group
 heading_beside s quantities plain group beside = record {
-  beside = plain_beside s quantities group (record {
-    from_rows = beside.from_rows;
-    from_parts = λ k d within. beside.from_parts (suc k) d (omega (arith, within));
-  });
+  beside = plain_beside s quantities group (beside_fewer s.config.rows plain (option_map (λ q. q.group) quantities ∷ part_groups s) group beside);
   from_plain = beside.from_parts 0 None (omega arith);
 }
 
 -- and beside that of joined headings
-alerts_beside :
+nav_beside :
     (s : Settings) (quantities : Option Quantities) (plain heading : Option (List ℕ)) (group : List ℕ)
-    → IsGroupBeside s.config.rows (heading ∷ plain ∷ option_map (λ q. q.group) quantities ∷ part_groups s) group → IsAlertGroup s quantities plain heading group
-alerts_beside s quantities plain heading group beside = record {
-  beside = heading_beside s quantities plain group (record {
-    from_rows = beside.from_rows;
-    from_parts = λ k d within. beside.from_parts (suc k) d (omega (arith, within));
-  });
+    → IsGroupBeside s.config.rows (heading ∷ plain ∷ option_map (λ q. q.group) quantities ∷ part_groups s) group → IsNavGroup s quantities plain heading group
+nav_beside s quantities plain heading group beside = record {
+  beside =
+      heading_beside s quantities plain group
+      (beside_fewer s.config.rows heading (plain ∷ option_map (λ q. q.group) quantities ∷ part_groups s) group beside);
   from_heading = beside.from_parts 0 None (omega arith);
+}
+
+-- and beside that of legs
+alerts_beside :
+    (s : Settings) (quantities : Option Quantities) (plain heading nav : Option (List ℕ)) (group : List ℕ)
+    → IsGroupBeside s.config.rows (nav ∷ heading ∷ plain ∷ option_map (λ q. q.group) quantities ∷ part_groups s) group
+    → IsAlertGroup s quantities plain heading nav group
+alerts_beside s quantities plain heading nav group beside = record {
+  beside =
+      nav_beside s quantities plain heading group
+      (beside_fewer s.config.rows nav (heading ∷ plain ∷ option_map (λ q. q.group) quantities ∷ part_groups s) group beside);
+  from_nav = beside.from_parts 0 None (omega arith);
 }
 
 watch_beside : (w : WatchConfig) (beside own : List ℕ → Type 0) → ((group : List ℕ) → beside group → own group) → IsWatch beside w → IsWatch own w
@@ -159,14 +175,13 @@ watch_beside w beside own is_own is = record {
 
 -- and beside that of alerts
 heartbeat_beside :
-    (s : Settings) (quantities : Option Quantities) (plain heading alerts : Option (List ℕ)) (group : List ℕ)
-    → IsGroupBeside s.config.rows (alerts ∷ heading ∷ plain ∷ option_map (λ q. q.group) quantities ∷ part_groups s) group
-    → IsHeartbeatGroup s quantities plain heading alerts group
-heartbeat_beside s quantities plain heading alerts group beside = record {
-  beside = alerts_beside s quantities plain heading group (record {
-    from_rows = beside.from_rows;
-    from_parts = λ k d within. beside.from_parts (suc k) d (omega (arith, within));
-  });
+    (s : Settings) (quantities : Option Quantities) (plain heading nav alerts : Option (List ℕ)) (group : List ℕ)
+    → IsGroupBeside s.config.rows (alerts ∷ nav ∷ heading ∷ plain ∷ option_map (λ q. q.group) quantities ∷ part_groups s) group
+    → IsHeartbeatGroup s quantities plain heading nav alerts group
+heartbeat_beside s quantities plain heading nav alerts group beside = record {
+  beside =
+      alerts_beside s quantities plain heading nav group
+      (beside_fewer s.config.rows alerts (nav ∷ heading ∷ plain ∷ option_map (λ q. q.group) quantities ∷ part_groups s) group beside);
   from_alerts = beside.from_parts 0 None (omega arith);
 }
 
@@ -175,12 +190,14 @@ pub setup_beside :
     → ForSome x.plain (IsGroupBeside x.settings.config.rows (option_map (λ q. q.group) x.quantities ∷ part_groups x.settings))
     → IsInRange 0 60000 x.plain_every_ms
     → ForSome x.heading (IsHeading (IsGroupBeside x.settings.config.rows (x.plain ∷ option_map (λ q. q.group) x.quantities ∷ part_groups x.settings)))
-    → IsWatch (IsGroupBeside x.settings.config.rows (heading_group x.heading ∷ x.plain ∷ option_map (λ q. q.group) x.quantities ∷ part_groups x.settings)) x.watch
+    → ForSome x.nav (IsNav (IsGroupBeside x.settings.config.rows (heading_group x.heading ∷ x.plain ∷ option_map (λ q. q.group) x.quantities ∷ part_groups x.settings)))
+    → IsWatch
+    (IsGroupBeside x.settings.config.rows (nav_group x.nav ∷ heading_group x.heading ∷ x.plain ∷ option_map (λ q. q.group) x.quantities ∷ part_groups x.settings)) x.watch
     → IsHeartbeat x.heartbeat
     → ForSome x.heartbeat.net (λ n. IsGroupBeside x.settings.config.rows
-    (alert_group x.watch ∷ heading_group x.heading ∷ x.plain ∷ option_map (λ q. q.group) x.quantities ∷ part_groups x.settings) n.group)
+    (alert_group x.watch ∷ nav_group x.nav ∷ heading_group x.heading ∷ x.plain ∷ option_map (λ q. q.group) x.quantities ∷ part_groups x.settings) n.group)
     → IsSetup x
-setup_beside x settings ignore quantities plain pace heading watch beats free = record {
+setup_beside x settings ignore quantities plain pace heading nav watch beats free = record {
   settings = settings;
   ignore = ignore;
   quantities = λ all is. quantities_beside x.settings all (quantities all is);
@@ -188,9 +205,13 @@ setup_beside x settings ignore quantities plain pace heading watch beats free = 
   pace = pace;
   heading = λ j is. let asked = heading j is in
       record { group = heading_beside x.settings x.quantities x.plain j.group asked.group; variation = asked.variation };
+  nav = λ n is. let asked = nav n is in
+      record { group = nav_beside x.settings x.quantities x.plain (heading_group x.heading) n.group asked.group; slots = asked.slots; legs = asked.legs };
   watch =
-      watch_beside x.watch (IsGroupBeside x.settings.config.rows (heading_group x.heading ∷ x.plain ∷ option_map (λ q. q.group) x.quantities ∷ part_groups x.settings))
-      (IsAlertGroup x.settings x.quantities x.plain (heading_group x.heading)) (alerts_beside x.settings x.quantities x.plain (heading_group x.heading)) watch;
+      watch_beside x.watch
+      (IsGroupBeside x.settings.config.rows (nav_group x.nav ∷ heading_group x.heading ∷ x.plain ∷ option_map (λ q. q.group) x.quantities ∷ part_groups x.settings))
+      (IsAlertGroup x.settings x.quantities x.plain (heading_group x.heading) (nav_group x.nav))
+      (alerts_beside x.settings x.quantities x.plain (heading_group x.heading) (nav_group x.nav)) watch;
   heartbeat = beats;
-  heartbeat_group = λ n is. heartbeat_beside x.settings x.quantities x.plain (heading_group x.heading) (alert_group x.watch) n.group (free n is);
+  heartbeat_group = λ n is. heartbeat_beside x.settings x.quantities x.plain (heading_group x.heading) (nav_group x.nav) (alert_group x.watch) n.group (free n is);
 }

@@ -46,6 +46,7 @@ pub record AsksNothingFurther (document : Place) : Type 0 where
   pub plain : Lacks Keys.plain.name (Keys.plain.known ++ Keys.pace.known) document
   pub recording : Lacks Keys.serve.name Keys.serve.known document
   pub heading : Lacks Keys.heading.name Keys.heading.known document
+  pub nav : Lacks Keys.nav.name Keys.nav.known document
   pub limits : NoneHas Keys.watched.known (row_names all_rows) (table_of (get_member Keys.watched.name document.members))
   pub alerts : Lacks Keys.alerts.name Keys.alerts.known document
   pub heartbeat : Lacks Keys.heartbeat.name Keys.heartbeat.known document

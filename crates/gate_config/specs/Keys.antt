@@ -27,10 +27,11 @@ use Rattle.network_routes.specs.Routes.{most_routes}
 use Rattle.network_routes.specs.declared.Route.{Route}
 use Rattle.settings.specs.Watch.{alert_group}
 use Rattle.settings.specs.declared.ais.AisConfig.{AisConfig}
-use Rattle.settings.specs.Setup.{heading_group}
+use Rattle.settings.specs.Setup.{heading_group, nav_group}
 use Rattle.settings.specs.declared.heading.HeadingConfig.{HeadingConfig}
 use Rattle.settings.specs.declared.heartbeat.HeartbeatConfig.{HeartbeatConfig}
 use Rattle.settings.specs.declared.heartbeat.NetHeartbeat.{NetHeartbeat}
+use Rattle.settings.specs.declared.nav.NavConfig.{NavConfig}
 use Rattle.settings.specs.declared.quantity_config.Quantities.{Quantities}
 use Rattle.settings.specs.declared.quantity_config.QuantityConfig.{QuantityConfig}
 use Rattle.settings.specs.declared.rmc.RmcConfig.{RmcConfig}
@@ -94,14 +95,14 @@ preset =
 abbrev pub devices : Kind (ArrayVec Pattern)
 devices = unless (λ sources. repeats same_pattern sources.items) (list_at pattern_in 16)
 
--- whom a quantity is taken from and who says it, beside the talker that it has by default
-unfoldable pub quantity : Table (List ℕ) QuantityConfig
+-- whom a quantity is taken from and who says it, beside the talker and the timeout that it has by default
+unfoldable pub quantity : Table (List ℕ × ℕ) QuantityConfig
 quantity =
     table (codes "further") (λ sources others timeout talker. record { sources = sources; others = others; timeout_ms = timeout; talker = talker.0 })
     & key (codes "sources") devices
     & key (codes "others") (default true truth_at)
-    & key (codes "timeout_ms") (default usual_timeout (number_at 100 60000))
-    & key_beside (codes "talker") (λ talker. default (record { 0 = talker }) (text_at talker_in))
+    & key_beside (codes "timeout_ms") (λ beside. default beside.1 (number_at 100 60000))
+    & key_beside (codes "talker") (λ beside. default (record { 0 = beside.0 }) (text_at talker_in))
 
 -- row.R: the same, and the group that it is sent to; beside the talker and the group that it has by default
 unfoldable pub row : Table (List ℕ × List ℕ) RowConfig
@@ -113,7 +114,7 @@ row =
       talker = taken.talker;
       group = group;
     })
-    & keys_beside (λ beside. beside.0) quantity
+    & keys_beside (λ beside. (beside.0, usual_timeout)) quantity
     & key_beside (codes "group") (λ beside. default beside.1 (text_at group_in))
 
 unfoldable pub row_at : List ℕ → List ℕ → Place → List ℕ → List ℕ → Result RowConfig ConfigFault
@@ -252,7 +253,7 @@ further =
     & key (codes "twin_engines") (default false truth_at)
 
 unfoldable pub quantity_at : List ℕ → Place → List ℕ → List ℕ → Result QuantityConfig ConfigFault
-quantity_at talker place name prefix = section_at place name prefix >>= quantity.read talker
+quantity_at talker place name prefix = section_at place name prefix >>= quantity.read (talker, usual_timeout)
 
 -- a quantity, by its name, and with the talker that it has by default
 abbrev pub quantity_of : Place → Quantity → Result QuantityConfig ConfigFault
@@ -292,16 +293,25 @@ optional =
 unfoldable pub serve : Table ⊤ Bool
 serve = table (codes "serve") (λ recording. recording) & key (codes "record") (default false truth_at)
 
--- heading, beside the rows and the groups of the other parts: each of its other keys asks for its group
-abbrev pub asks_heading : Place → Bool
-asks_heading place = stands_at (codes "hdm") place || list_any (λ name. stands_at name place) quantity.known
+-- a part that is taken as a quantity: a key of its own asks for its group, and so does each of those of a quantity
+abbrev pub asks_as_quantity : List ℕ → Place → Bool
+asks_as_quantity own place = stands_at own place || list_any (λ name. stands_at name place) quantity.known
 
+-- heading, beside the rows and the groups of the other parts
 unfoldable pub heading : Table (List RowConfig × List (Option (List ℕ))) (Option HeadingConfig)
 heading =
     table (codes "heading") (λ group taken hdm. option_map (λ g. record { group = g; variation = taken; hdm = hdm }) group)
-    & key_beside (codes "group") (λ beside. own_group_at beside.0 beside.1 asks_heading)
-    & keys_beside (λ beside. codes "HC") quantity
+    & key_beside (codes "group") (λ beside. own_group_at beside.0 beside.1 (asks_as_quantity (codes "hdm")))
+    & keys_beside (λ beside. (codes "HC", usual_timeout)) quantity
     & key (codes "hdm") (default false truth_at)
+
+-- nav, beside the same: a leg counts for half as long as usual, since a pilot steers by it
+unfoldable pub nav : Table (List RowConfig × List (Option (List ℕ))) (Option NavConfig)
+nav =
+    table (codes "nav") (λ group slots taken. option_map (λ g. record { group = g; slots = slots; legs = taken }) group)
+    & key_beside (codes "group") (λ beside. own_group_at beside.0 beside.1 (asks_as_quantity (codes "slots")))
+    & key (codes "slots") (default 16 (number_at 1 256))
+    & keys_beside (λ beside. (codes "GP", 2500)) quantity
 
 -- row.R again: how long a row may stay unsaid, in milliseconds
 unfoldable pub watched : Table ⊤ (Option ℕ)
@@ -410,9 +420,11 @@ setup_in document = do
   every ← table_in pace tt document
   sentences ← table_in optional tt document
   joined ← table_in heading (settings.config.rows, group ∷ option_map (λ q. q.group) quantities ∷ part_groups settings) document
-  watch ← watch_in settings.config.rows (heading_group joined ∷ group ∷ option_map (λ q. q.group) quantities ∷ part_groups settings) document
+  legs ← table_in nav (settings.config.rows, heading_group joined ∷ group ∷ option_map (λ q. q.group) quantities ∷ part_groups settings) document
+  watch ← watch_in settings.config.rows (nav_group legs ∷ heading_group joined ∷ group ∷ option_map (λ q. q.group) quantities ∷ part_groups settings) document
   beats ←
-      table_in heartbeat (settings.config.rows, alert_group watch ∷ heading_group joined ∷ group ∷ option_map (λ q. q.group) quantities ∷ part_groups settings) document
+      table_in heartbeat
+      (settings.config.rows, alert_group watch ∷ nav_group legs ∷ heading_group joined ∷ group ∷ option_map (λ q. q.group) quantities ∷ part_groups settings) document
   Ok (record {
     settings = settings;
     ignore = devices;
@@ -424,6 +436,7 @@ setup_in document = do
     plain_every_ms = every;
     «record» = recording;
     heading = joined;
+    nav = legs;
     watch = watch;
     heartbeat = beats;
   })

@@ -64,7 +64,7 @@ items t document best = noted_items t.known (prefix_of t.name) 1 (items_of (get_
 unfoldable pub tables : List (List ℕ)
 tables =
     Keys.gateway.name ∷ Keys.preset.name ∷ Keys.row.name ∷ Keys.net.name ∷ Keys.bus.name ∷ Keys.route.name ∷ Keys.identity.name ∷ Keys.rmc.name ∷ Keys.ais.name
-    ∷ Keys.further.name ∷ Keys.report.name ∷ Keys.plain.name ∷ Keys.serve.name ∷ Keys.heading.name ∷ Keys.alerts.name ∷ Keys.heartbeat.name ∷ []
+    ∷ Keys.further.name ∷ Keys.report.name ∷ Keys.plain.name ∷ Keys.serve.name ∷ Keys.heading.name ∷ Keys.nav.name ∷ Keys.alerts.name ∷ Keys.heartbeat.name ∷ []
 
 -- the gateway itself, the devices that it knows, and its rows
 unfoldable pub gateway_noted : Place → Option (List ℕ) → Option (List ℕ)
@@ -97,12 +97,12 @@ further_noted document best =
     once Keys.heartbeat document (once Keys.serve document (plain_noted document (once Keys.report document
     (quantities_noted (place_under document Keys.further.name (prefix_of Keys.further.name)) best))))
 
--- how headings are joined
-unfoldable pub heading_noted : Place → Option (List ℕ) → Option (List ℕ)
-heading_noted document best = once Keys.heading document best
+-- what is said to autopilots: joined headings, and the legs of plotters
+unfoldable pub pilot_noted : Place → Option (List ℕ) → Option (List ℕ)
+pilot_noted document best = once Keys.nav document (once Keys.heading document best)
 
 -- every table
 unfoldable pub first_unknown : Place → Option (List ℕ)
 first_unknown document =
-    once Keys.alerts document (heading_noted document
+    once Keys.alerts document (pilot_noted document
     (further_noted document (parts_noted document (links_noted document (gateway_noted document (noted tables document None))))))

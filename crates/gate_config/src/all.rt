@@ -4,7 +4,7 @@ ghost use Rattle.config_document.specs.Places.{place_of};
 ghost use Rattle.gate_config.specs.Beside.{AreLinks, AreParts};
 ghost use Rattle.gate_config.specs.Keys.{links_in, part_groups, parts_in, settings_in, setup_in};
 ghost use Rattle.settings.specs.Settings.{IsSettings};
-ghost use Rattle.settings.specs.Setup.{IsSetup, heading_group};
+ghost use Rattle.settings.specs.Setup.{IsSetup, heading_group, nav_group};
 ghost use Rattle.settings.specs.Watch.{alert_group};
 
 use crate::further::{
@@ -16,6 +16,7 @@ use crate::heading::{heading_group, heading_keys};
 use crate::heartbeat::heartbeat_keys;
 use crate::identity::identity_keys;
 use crate::links::{bus_keys, net_keys};
+use crate::nav::{nav_group, nav_keys};
 use crate::parts::{ais_group, ais_keys, rmc_group, rmc_keys};
 use crate::presets::preset_keys;
 use crate::routes::route_keys;
@@ -29,7 +30,8 @@ use config_values::{Config, Ends, RowConfig};
 use network_routes::Routes;
 use sentence_text::{Group, Sfi};
 use settings::{
-    AisConfig, HeadingConfig, Quantities, QuantityConfigs, RmcConfig, Settings, Setup, WatchConfig,
+    AisConfig, HeadingConfig, NavConfig, Quantities, QuantityConfigs, RmcConfig, Settings, Setup,
+    WatchConfig,
 };
 
 /// What the gateway says of itself, and the parts beside it.
@@ -54,9 +56,11 @@ pub(crate) fn all_keys(document: &Section, each: QuantityConfigs) -> Result<Setu
     let optional_sentences = optional_keys(document)?;
     let groups = groups_beside(&plain, &quantities, &settings);
     let heading = heading_keys(document, &settings.config.rows, &groups)?;
-    let groups = groups_behind_heading(&heading, &plain, &quantities, &settings);
+    let groups = groups_behind_heading(&heading, groups);
+    let nav = nav_keys(document, &settings.config.rows, &groups)?;
+    let groups = groups_behind_nav(&nav, groups);
     let watch = watch_keys(document, &settings.config.rows, &groups)?;
-    let groups = groups_behind_alerts(&watch, &heading, &plain, &quantities, &settings);
+    let groups = groups_behind_alerts(&watch, groups);
     let heartbeat = heartbeat_keys(document, &settings.config.rows, &groups)?;
     Ok(Setup {
         settings,
@@ -69,6 +73,7 @@ pub(crate) fn all_keys(document: &Section, each: QuantityConfigs) -> Result<Setu
         plain_every_ms,
         record: recording,
         heading,
+        nav,
         watch,
         heartbeat,
     })
@@ -93,38 +98,35 @@ fn groups_beside(
 /// Those, and before them the group of joined headings.
 fn groups_behind_heading(
     heading: &Option<HeadingConfig>,
-    plain: &Option<Group>,
-    quantities: &Option<Quantities>,
-    settings: &Settings,
+    groups: [Option<Group>; 4],
 ) -> [Option<Group>; 5]
-    ensures { result ≡ heading_group heading.now ∷ plain.now ∷ option_map (λ q. q.group) quantities.now ∷ part_groups settings.now }
+    ensures { result ≡ heading_group heading.now ∷ groups }
 {
-    [
-        heading_group(heading),
-        *plain,
-        quantities_group(quantities),
-        rmc_group(&settings.rmc),
-        ais_group(&settings.ais),
-    ]
+    let [plain, quantities, rmc, ais] = groups;
+    [heading_group(heading), plain, quantities, rmc, ais]
+}
+
+/// Those, and before them the group of the legs of plotters.
+fn groups_behind_nav(nav: &Option<NavConfig>, groups: [Option<Group>; 5]) -> [Option<Group>; 6]
+    ensures { result ≡ nav_group nav.now ∷ groups }
+{
+    let [heading, plain, quantities, rmc, ais] = groups;
+    [nav_group(nav), heading, plain, quantities, rmc, ais]
 }
 
 /// Those, and before them the group of alerts.
-fn groups_behind_alerts(
-    watch: &WatchConfig,
-    heading: &Option<HeadingConfig>,
-    plain: &Option<Group>,
-    quantities: &Option<Quantities>,
-    settings: &Settings,
-) -> [Option<Group>; 6]
-    ensures { result ≡ alert_group watch.now ∷ heading_group heading.now ∷ plain.now ∷ option_map (λ q. q.group) quantities.now ∷ part_groups settings.now }
+fn groups_behind_alerts(watch: &WatchConfig, groups: [Option<Group>; 6]) -> [Option<Group>; 7]
+    ensures { result ≡ alert_group watch.now ∷ groups }
 {
+    let [nav, heading, plain, quantities, rmc, ais] = groups;
     [
         alert_group(watch),
-        heading_group(heading),
-        *plain,
-        quantities_group(quantities),
-        rmc_group(&settings.rmc),
-        ais_group(&settings.ais),
+        nav,
+        heading,
+        plain,
+        quantities,
+        rmc,
+        ais,
     ]
 }
 

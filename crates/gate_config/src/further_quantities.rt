@@ -18,7 +18,7 @@ use crate::parts::own_group;
 use crate::quantity::{self, quantity_keys};
 use crate::words::{FURTHER, FURTHER_PREFIX, GROUP, SLOTS, TWIN_ENGINES};
 use config_document::{ConfigFault, Section};
-use config_values::RowConfig;
+use config_values::{RowConfig, USUAL_TIMEOUT_MS};
 use quantities::{Quantity, all_quantities};
 use sentence_text::Group;
 use settings::{Quantities, QuantityConfig, QuantityConfigs};
@@ -134,5 +134,5 @@ fn quantity(
     ensures valid { IfOk result IsQuantity }
 {
     let section = section(table, name, prefix)?;
-    quantity_keys(&section, talker)
+    quantity_keys(&section, talker, USUAL_TIMEOUT_MS)
 }

@@ -3,16 +3,16 @@ ghost use Rattle.std.specs.Prelude.{◌≡◌, IfOk, option_map};
 ghost use Rattle.std.specs.Option.{ForSome};
 ghost use Rattle.config_document.specs.Places.{place_of};
 ghost use Rattle.gate_config.specs.Beside.{IsGroupBeside};
-ghost use Rattle.gate_config.specs.Keys.{asks_heading, heading};
+ghost use Rattle.gate_config.specs.Keys.{heading};
 ghost use Rattle.gate_config.specs.Reading.{table_in};
 ghost use Rattle.settings.specs.Setup.{IsHeading, heading_group};
 
-use crate::keys::{any_stands, section, stands_at, truth_or};
+use crate::keys::{section, truth_or};
 use crate::parts::own_group;
-use crate::quantity::{self, quantity_keys};
+use crate::quantity::{asks_as_quantity, quantity_keys};
 use crate::words::{GROUP, HDM, HEADING, HEADING_PREFIX, OTHERS, SOURCES, TALKER, TIMEOUT_MS};
 use config_document::{ConfigFault, Section};
-use config_values::RowConfig;
+use config_values::{RowConfig, USUAL_TIMEOUT_MS};
 use sentence_text::Group;
 use settings::HeadingConfig;
 
@@ -29,8 +29,8 @@ pub(crate) fn heading_keys(
     ensures valid { IfOk result (λ all. ForSome all (IsHeading (IsGroupBeside rows.now parts.now))) }
 {
     let table = section(document, HEADING, HEADING_PREFIX)?;
-    let own = own_group(&table, GROUP, rows, parts, asks_heading(&table))?;
-    let variation = quantity_keys(&table, *b"HC")?;
+    let own = own_group(&table, GROUP, rows, parts, asks_as_quantity(&table, HDM))?;
+    let variation = quantity_keys(&table, *b"HC", USUAL_TIMEOUT_MS)?;
     let hdm = truth_or(&table, HDM, false)?;
     match own {
         None => Ok(None),
@@ -40,14 +40,6 @@ pub(crate) fn heading_keys(
             hdm,
         })),
     }
-}
-
-/// Whether another key asks for the group.
-#[tactic(auto, unfolding(crate::specs::Keys::quantity))]
-fn asks_heading(table: &Section) -> bool
-    ensures { result ≡ asks_heading (place_of table.now) }
-{
-    stands_at(table, HDM) || any_stands(table, &quantity::KEYS)
 }
 
 /// The group of joined headings.

@@ -14,6 +14,7 @@ mod items;
 mod keys;
 pub mod laws;
 mod links;
+mod nav;
 mod parts;
 mod presets;
 mod quantity;
@@ -29,6 +30,6 @@ pub use config_document::{ConfigFault, FaultLine, Key};
 pub use config_values::{Config, Ends, RowConfig};
 pub use reading::{read, read_all, read_whole};
 pub use settings::{
-    AisConfig, AlertConfig, HeartbeatConfig, NetHeartbeat, Quantities, QuantityConfig,
+    AisConfig, AlertConfig, HeartbeatConfig, NavConfig, NetHeartbeat, Quantities, QuantityConfig,
     QuantityConfigs, RmcConfig, Settings, Setup, WatchConfig,
 };

@@ -12,7 +12,7 @@ use crate::quantity::quantity_keys;
 use crate::words::{GROUP, OTHERS, ROW, ROW_PREFIX, SOURCES, TALKER, TIMEOUT_MS, WATCH_MS};
 use arrayvec::ArrayVec;
 use config_document::{ConfigFault, Section};
-use config_values::RowConfig;
+use config_values::{RowConfig, USUAL_TIMEOUT_MS};
 use readings::{ROWS, Row, all_rows};
 use sentence_text::Group;
 use settings::QuantityConfig;
@@ -73,7 +73,7 @@ fn keys_of_row(section: &Section, talker: [u8; 2], group: Group) -> Result<RowCo
     ensures said { result ≡ row.read (talker, group) (place_of section.now) }
     ensures valid { IfOk result IsRow }
 {
-    let taken = quantity_keys(section, talker)?;
+    let taken = quantity_keys(section, talker, USUAL_TIMEOUT_MS)?;
     let group = text_or(section, GROUP, group)?;
     let QuantityConfig {
         sources,

@@ -4,17 +4,17 @@ ghost use Rattle.toml.specs.Data.{get_member};
 ghost use Rattle.toml.specs.View.{items_view};
 ghost use Rattle.config_document.specs.Places.{place_of};
 ghost use Rattle.config_document.specs.Unknown.{path_seen};
-ghost use Rattle.gate_config.specs.Unknown.{each_noted, first_unknown, further_noted, gateway_noted, heading_noted, items_of, links_noted, noted, noted_items, parts_noted, place_under, quantities_noted, quantity_names, row_names, rows_noted};
+ghost use Rattle.gate_config.specs.Unknown.{each_noted, first_unknown, further_noted, gateway_noted, items_of, links_noted, noted, noted_items, parts_noted, pilot_noted, place_under, quantities_noted, quantity_names, row_names, rows_noted};
 
 use crate::items::{item_prefix, key_prefix};
 use crate::words::{
     AIS, AIS_PREFIX, BUS, BUS_PREFIX, FURTHER, FURTHER_PREFIX, GATEWAY, GATEWAY_PREFIX, HEADING,
-    HEADING_PREFIX, HEARTBEAT, HEARTBEAT_PREFIX, IDENTITY, IDENTITY_PREFIX, NET, NET_PREFIX, PLAIN,
-    PLAIN_PREFIX, PRESET, PRESET_PREFIX, REPORT, REPORT_PREFIX, RMC, RMC_PREFIX, ROUTE,
-    ROUTE_PREFIX, ROW, ROW_PREFIX, SERVE, SERVE_PREFIX, WATCH, WATCH_PREFIX,
+    HEADING_PREFIX, HEARTBEAT, HEARTBEAT_PREFIX, IDENTITY, IDENTITY_PREFIX, NAV, NAV_PREFIX, NET,
+    NET_PREFIX, PLAIN, PLAIN_PREFIX, PRESET, PRESET_PREFIX, REPORT, REPORT_PREFIX, RMC, RMC_PREFIX,
+    ROUTE, ROUTE_PREFIX, ROW, ROW_PREFIX, SERVE, SERVE_PREFIX, WATCH, WATCH_PREFIX,
 };
 use crate::{
-    further, further_quantities, gateway, heading, heartbeat, identity, links, parts, presets,
+    further, further_quantities, gateway, heading, heartbeat, identity, links, nav, parts, presets,
     quantity, routes, rows, watch,
 };
 use arrayvec::ArrayVec;
@@ -25,9 +25,9 @@ use std::alloc::{AllocError, Global};
 use toml::Value;
 
 /// The tables of a configuration.
-const TABLES: [&str; 16] = [
+const TABLES: [&str; 17] = [
     GATEWAY, PRESET, ROW, NET, BUS, ROUTE, IDENTITY, RMC, AIS, FURTHER, REPORT, PLAIN, SERVE,
-    HEADING, WATCH, HEARTBEAT,
+    HEADING, NAV, WATCH, HEARTBEAT,
 ];
 
 /// The path of the key that isn't known, and that comes first of all such in the order of bytes.
@@ -42,7 +42,7 @@ pub(crate) fn first_unknown(
     let least = in_links(alloc, document, least)?;
     let least = in_parts(alloc, document, least)?;
     let least = in_further(alloc, document, least)?;
-    let least = in_heading(alloc, document, least)?;
+    let least = in_pilot(alloc, document, least)?;
     under(alloc, document, WATCH, WATCH_PREFIX, &watch::KEYS, least)
 }
 
@@ -145,22 +145,23 @@ fn in_further(
     )
 }
 
-/// The same of how headings are joined.
-fn in_heading(
+/// The same of what is said to autopilots: joined headings, and the legs of plotters.
+fn in_pilot(
     alloc: Global,
     document: &Section,
     least: Option<Vec<u8>>,
 ) -> Result<Option<Vec<u8>>, AllocError>
-    ensures { IfOk result (λ path. path_seen path ≡ heading_noted (place_of document.now) (path_seen least)) }
+    ensures { IfOk result (λ path. path_seen path ≡ pilot_noted (place_of document.now) (path_seen least)) }
 {
-    under(
+    let least = under(
         alloc,
         document,
         HEADING,
         HEADING_PREFIX,
         &heading::KEYS,
         least,
-    )
+    )?;
+    under(alloc, document, NAV, NAV_PREFIX, &nav::KEYS, least)
 }
 
 /// The same of the table of rows, and of each row's table.

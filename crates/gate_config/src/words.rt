@@ -57,6 +57,10 @@ pub(crate) const HEADING: &str = "heading";
 
 pub(crate) const HEADING_PREFIX: &[u8] = b"heading.";
 
+pub(crate) const NAV: &str = "nav";
+
+pub(crate) const NAV_PREFIX: &[u8] = b"nav.";
+
 pub(crate) const WATCH: &str = "watch";
 
 pub(crate) const WATCH_PREFIX: &[u8] = b"watch.";

@@ -27,7 +27,8 @@ alone_is_setup s are = record {
   plain = λ group there. absurd (none-some group there);
   pace = (omega arith, omega arith);
   heading = λ j there. absurd (none-some j there);
-  watch = none_watched (IsAlertGroup s None None None);
+  nav = λ n there. absurd (none-some n there);
+  watch = none_watched (IsAlertGroup s None None None None);
   heartbeat = record { net = λ n there. absurd (none-some n there); bus = λ every there. absurd (none-some every there) };
   heartbeat_group = λ n there. absurd (none-some n there);
 }

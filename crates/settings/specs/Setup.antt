@@ -12,7 +12,7 @@ use Rattle.config_values.specs.Settings.{settings_ignoring}
 use Rattle.settings.specs.Heartbeat.{IsHeartbeat, no_heartbeat}
 use Rattle.settings.specs.Settings.{IsOwnGroup, IsSettings}
 use Rattle.settings.specs.declared.heading.HeadingConfig.{HeadingConfig}
-use Rattle.settings.specs.declared.heartbeat.NetHeartbeat.{NetHeartbeat}
+use Rattle.settings.specs.declared.nav.NavConfig.{NavConfig}
 use Rattle.settings.specs.declared.quantity_config.Quantities.{Quantities}
 use Rattle.settings.specs.declared.quantity_config.QuantityConfig.{QuantityConfig}
 use Rattle.settings.specs.declared.settings.Settings.{Settings}
@@ -32,6 +32,7 @@ alone s = record {
   plain_every_ms = 0;
   «record» = false;
   heading = None;
+  nav = None;
   watch = no_watch;
   heartbeat = no_heartbeat;
 }
@@ -79,13 +80,27 @@ abbrev pub heading_group : Option HeadingConfig → Option (List ℕ)
 heading_group heading = option_map (λ j. j.group) heading
 
 -- nor joined headings
-pub record IsAlertGroup (s : Settings) (quantities : Option Quantities) (plain heading : Option (List ℕ)) (group : List ℕ) : Type 0 where
+pub record IsNavGroup (s : Settings) (quantities : Option Quantities) (plain heading : Option (List ℕ)) (group : List ℕ) : Type 0 where
   pub beside : IsHeadingGroup s quantities plain group
   pub from_heading : ForSome heading (λ other. other ≢ group)
 
+pub record IsNav (is_own : List ℕ → Type 0) (n : NavConfig) : Type 0 where
+  pub group : is_own n.group
+  pub slots : IsInRange 1 256 n.slots
+  pub legs : IsQuantity n.legs
+
+-- the transmission group of the legs of plotters, where they are said
+abbrev pub nav_group : Option NavConfig → Option (List ℕ)
+nav_group nav = option_map (λ n. n.group) nav
+
+-- nor legs
+pub record IsAlertGroup (s : Settings) (quantities : Option Quantities) (plain heading nav : Option (List ℕ)) (group : List ℕ) : Type 0 where
+  pub beside : IsNavGroup s quantities plain heading group
+  pub from_nav : ForSome nav (λ other. other ≢ group)
+
 -- nor alerts
-pub record IsHeartbeatGroup (s : Settings) (quantities : Option Quantities) (plain heading alerts : Option (List ℕ)) (group : List ℕ) : Type 0 where
-  pub beside : IsAlertGroup s quantities plain heading group
+pub record IsHeartbeatGroup (s : Settings) (quantities : Option Quantities) (plain heading nav alerts : Option (List ℕ)) (group : List ℕ) : Type 0 where
+  pub beside : IsAlertGroup s quantities plain heading nav group
   pub from_alerts : ForSome alerts (λ other. other ≢ group)
 
 pub record IsSetup (x : Setup) : Type 0 where
@@ -95,9 +110,11 @@ pub record IsSetup (x : Setup) : Type 0 where
   pub plain : ForSome x.plain (IsPlainGroup x.settings x.quantities)
   pub pace : IsInRange 0 60000 x.plain_every_ms
   pub heading : ForSome x.heading (IsHeading (IsHeadingGroup x.settings x.quantities x.plain))
-  pub watch : IsWatch (IsAlertGroup x.settings x.quantities x.plain (heading_group x.heading)) x.watch
+  pub nav : ForSome x.nav (IsNav (IsNavGroup x.settings x.quantities x.plain (heading_group x.heading)))
+  pub watch : IsWatch (IsAlertGroup x.settings x.quantities x.plain (heading_group x.heading) (nav_group x.nav)) x.watch
   pub heartbeat : IsHeartbeat x.heartbeat
-  pub heartbeat_group : ForSome x.heartbeat.net (λ n. IsHeartbeatGroup x.settings x.quantities x.plain (heading_group x.heading) (alert_group x.watch) n.group)
+  pub heartbeat_group :
+      ForSome x.heartbeat.net (λ n. IsHeartbeatGroup x.settings x.quantities x.plain (heading_group x.heading) (nav_group x.nav) (alert_group x.watch) n.group)
 
 -- what the types of a configuration hold: its identifier is one, and each row and quantity has its place
 pub record IsTyped (x : Setup) : Type 0 where

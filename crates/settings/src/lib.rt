@@ -6,6 +6,7 @@
 mod ais;
 mod heading;
 mod heartbeat;
+mod nav;
 mod quantity_config;
 mod quantity_configs;
 mod rmc;
@@ -16,6 +17,7 @@ mod watch;
 pub use ais::AisConfig;
 pub use heading::HeadingConfig;
 pub use heartbeat::{HeartbeatConfig, NetHeartbeat};
+pub use nav::NavConfig;
 pub use quantity_config::{Quantities, QuantityConfig};
 pub use quantity_configs::QuantityConfigs;
 pub use rmc::RmcConfig;

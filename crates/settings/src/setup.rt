@@ -3,6 +3,7 @@ ghost use Rattle.std.specs.Prelude.{◌≡◌, IfOk};
 
 use crate::heading::HeadingConfig;
 use crate::heartbeat::HeartbeatConfig;
+use crate::nav::NavConfig;
 use crate::quantity_config::Quantities;
 use crate::settings::Settings;
 use crate::watch::WatchConfig;
@@ -36,6 +37,8 @@ pub struct Setup {
     pub record: bool,
     /// How headings are joined; none: they aren't.
     pub heading: Option<HeadingConfig>,
+    /// How the legs of plotters are said; none: they aren't.
+    pub nav: Option<NavConfig>,
     /// Which rows have to be said.
     pub watch: WatchConfig,
     /// How heartbeats are said.
@@ -64,6 +67,7 @@ impl Setup {
             plain_every_ms: 0,
             record: false,
             heading: None,
+            nav: None,
             watch: WatchConfig {
                 limits: [None; ROWS],
                 alerts: None,

@@ -14,6 +14,7 @@ returns-clause-valid c =
       plain_every_ms = c.in_ok-plain_every_ms.plain_every_ms;
       «record» = c.in_ok-recording.recording;
       heading = c.in_ok-heading.heading;
+      nav = c.in_ok-nav.nav;
       watch = c.in_ok-watch.watch;
       heartbeat = c.in_ok-heartbeat.heartbeat;
     })
@@ -22,5 +23,12 @@ returns-clause-valid c =
     (rw (c.quantities_group.ensures, c.rmc_group.ensures, c.ais_group.ensures) at c.in_ok-plain.ensures.valid)
     c.in_ok-plain_every_ms.ensures.valid
     (rw c.groups_beside-groups.ensures at c.in_ok-heading.ensures.valid)
-    (rw c.groups_behind_heading-groups.ensures at c.in_ok-watch.ensures.valid) c.in_ok-heartbeat.ensures.valid
-    (rw c.groups_behind_alerts-groups.ensures at c.in_ok-heartbeat.ensures.free)
+    (rw (c.groups_behind_heading-groups.ensures, c.groups_beside-groups.ensures) at c.in_ok-nav.ensures.valid)
+    (rw (c.groups_behind_nav-groups.ensures, c.groups_behind_heading-groups.ensures, c.groups_beside-groups.ensures) at c.in_ok-watch.ensures.valid)
+    c.in_ok-heartbeat.ensures.valid
+    (rw (
+      c.groups_behind_alerts-groups.ensures,
+      c.groups_behind_nav-groups.ensures,
+      c.groups_behind_heading-groups.ensures,
+      c.groups_beside-groups.ensures,
+    ) at c.in_ok-heartbeat.ensures.free)
