@@ -1,0 +1,11 @@
+pub mod LegRanges
+pub mod Printable
+pub mod Lines
+pub mod CourseLists
+pub mod CourseSteps
+pub mod Alone
+pub mod Steps
+pub mod Opening
+pub mod NavIsRead
+pub mod LawProofs
+pub mod Form

@@ -1,0 +1,10 @@
+pub mod NavRule
+pub mod Legs
+pub mod NavKinds
+pub mod Courses
+pub mod Sentences
+pub mod NavOut
+pub mod NavPart
+pub mod NavLaws
+pub mod Kept
+pub mod Promises
