@@ -53,9 +53,9 @@ module _ (p : BridgeSettings) (s : ℕ) (rule : PlainRule) (asked : p.plain ≡ 
   kept (entry.tick m ∷ h) = kept_on rule (voice_in p s h) m (all_utter p s h (entry.tick m)) (kept h)
   kept (entry.command m source address ∷ h) = kept h
 
--- what is said with its stream are all datagrams but plain ones, and but those that joined headings are said in place of
+-- what is said with its stream are all datagrams but plain ones, and but those that a part is said in place of
 abbrev own_again : BridgeSettings → ℕ → History → Entry → List Emit
-own_again p s h e = if is_replaced p.joined (option_map reading_stream (said_at p.gateway s h e)) then [] else out p.gateway s h e
+own_again p s h e = if is_replaced p.replaced (option_map reading_stream (said_at p.gateway s h e)) then [] else out p.gateway s h e
 
 own_bytes : (replaced : Bool) (stream : Option Stream) (es : List Emit) → bytes_of (if replaced then [] else uttered stream es) ≡ bytes_in (if replaced then [] else es)
 own_bytes true stream es = refl
@@ -65,7 +65,7 @@ pub utter_all : (p : BridgeSettings) (s : ℕ) (h : History) (e : Entry) → byt
 utter_all p s h e =
     let stream = option_map reading_stream (said_at p.gateway s h e) in
     datagrams_append (own_utters p s h e) (beside_utter p.parts p.gateway s h e) (own_again p s h e) (given p s h e)
-    (own_bytes (is_replaced p.joined stream) stream (out p.gateway s h e)) (beside.datagrams p.parts p.gateway s h e)
+    (own_bytes (is_replaced p.replaced stream) stream (out p.gateway s h e)) (beside.datagrams p.parts p.gateway s h e)
 
 -- and a reader finds in them what is said again
 rows_again : (replaced : Bool) (es : List Emit) (said : Spoken) → EachSays (nets_in es) said
@@ -75,7 +75,7 @@ rows_again false es said says = says
 
 read_again : (p : BridgeSettings) (s : ℕ) (h : History) (e : Entry) → Speaks p → EachSays (nets_in (own_again p s h e ++ given p s h e)) (said_again p s h e)
 read_again p s h e speaks =
-    let replaced = is_replaced p.joined (option_map reading_stream (said_at p.gateway s h e)) in
+    let replaced = is_replaced p.replaced (option_map reading_stream (said_at p.gateway s h e)) in
     both_say (own_again p s h e) (given p s h e) (rows_said_again p s h e) (beside.say p.parts p.gateway s h e)
     (rows_again replaced (out p.gateway s h e) (rows_say p.gateway s h e) (rows_are_read p.gateway s h e speaks.sfi speaks.rows))
     (beside.read p.parts p.gateway s h e speaks.parts)

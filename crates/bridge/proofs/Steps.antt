@@ -46,6 +46,7 @@ use Rattle.bridge.specs.declared.call_output.CallOutput.{CallOutput}
 use Rattle.bridge.specs.Kept.{Bridged, IsAlone, beside_out, given_count, ordered_output, output_at, output_of, own_output, plain_output}
 use Rattle.bridge.specs.BridgeSettings.{BridgeSettings}
 use Rattle.bridge.proofs.Ordered.{unposted}
+use Rattle.bridge.specs.declared.replaced.Replaced.{Replaced}
 
 -- ---- an event may follow
 
@@ -103,7 +104,7 @@ is_start s before between after forgot stands settings left is p new =
         gateway = subst (λ (z : Settings). Stands by_keys z s [] after.gateway) (settings ∙ here) stands;
         parts = subst (are_beside p.parts p.gateway s []) (sym parts) (forgot.kept p.parts p.gateway s [] (new.parts.stood s));
         plain = ap (λ (b : Bridged). b.plain) is ∙ forgot.plain ∙ new.plain;
-        joined = ap (λ (b : Bridged). b.joined) is ∙ forgot.joined ∙ new.joined;
+        replaced = ap (λ (b : Bridged). b.replaced) is ∙ forgot.replaced ∙ new.replaced;
         records = ap (λ (b : Bridged). b.records) is ∙ forgot.records ∙ new.records;
       };
       emits = alone_output after (ap (λ (b : Bridged). b.output.ordered) is ∙ ap (λ (x : CallOutput). x.ordered) forgot.output)
@@ -173,8 +174,8 @@ module _ (p : BridgeSettings) (s : ℕ) (h : History) (before forgotten stepped_
   plain_on : stepped_on.plain ≡ voice_in p s h
   plain_on = ap (λ (b : Bridged). b.plain) went.rest ∙ forgot.plain ∙ stands.plain
 
-  joined_on : stepped_on.joined ≡ p.joined
-  joined_on = ap (λ (b : Bridged). b.joined) went.rest ∙ forgot.joined ∙ stands.joined
+  replaced_on : stepped_on.replaced ≡ p.replaced
+  replaced_on = ap (λ (b : Bridged). b.replaced) went.rest ∙ forgot.replaced ∙ stands.replaced
 
   records_on : stepped_on.records ≡ p.records
   records_on = ap (λ (b : Bridged). b.records) went.rest ∙ forgot.records ∙ stands.records
@@ -202,7 +203,7 @@ module _ (p : BridgeSettings) (s : ℕ) (h : History) (before forgotten stepped_
           gateway = subst (λ (g : Machine). Stands by_keys p.gateway s h g) (sym same) stands.gateway;
           parts = stood;
           plain = plain_on;
-          joined = joined_on;
+          replaced = replaced_on;
           records = records_on;
         };
         emits = ap (λ (g : Machine). output_at g.moment stepped_on) same ∙ ap (λ (m : ℕ). output_at m stepped_on) stands.gateway.moment
@@ -222,12 +223,12 @@ module _ (p : BridgeSettings) (s : ℕ) (h : History) (before forgotten stepped_
 
     -- what is said of both, at the event's moment
     abbrev said : List Utterance
-    said = own_said stepped_on.joined p.gateway s h e stepped_on.output.outbox ++ beside_utterances told.parts
+    said = own_said stepped_on.replaced p.gateway s h e stepped_on.output.outbox ++ beside_utterances told.parts
 
     said_is : said ≡ all_utter p s h e
     said_is =
-        ap (λ (joined : Bool). own_said joined p.gateway s h e stepped_on.output.outbox ++ beside_utterances told.parts) joined_on
-        ∙ ap (λ (es : List Emit). own_uttered p.joined (option_map reading_stream (said_at p.gateway s h e)) es ++ beside_utterances told.parts) taken.emits
+        ap (λ (replaced : Replaced). own_said replaced p.gateway s h e stepped_on.output.outbox ++ beside_utterances told.parts) replaced_on
+        ∙ ap (λ (es : List Emit). own_uttered p.replaced (option_map reading_stream (said_at p.gateway s h e)) es ++ beside_utterances told.parts) taken.emits
         ∙ ap (λ (us : List Utterance). own_utters p s h e ++ us) given.said
 
     moment_on : stepped_on.gateway.moment ≡ moment_of e
@@ -267,7 +268,7 @@ module _ (p : BridgeSettings) (s : ℕ) (h : History) (before forgotten stepped_
       gateway = subst (λ (g : Machine). Stands by_keys p.gateway s (e ∷ h) g) (sym beside.gateway) taken.stands;
       parts = given.stood;
       plain = voice_is;
-      joined = beside.joined ∙ joined_on;
+      replaced = beside.replaced ∙ replaced_on;
       records = beside.records ∙ records_on;
     }
 
@@ -323,7 +324,7 @@ module _ (p : BridgeSettings) (s : ℕ) (h : History) (before forgotten stepped_
             parts = subst (are_beside p.parts p.gateway s (next ∷ e ∷ h)) (sym parts)
                 (beside_keep_commands p.parts p.gateway s (e ∷ h) o.source o.address told.parts stands.settings given.stood);
             plain = ap (λ (b : Bridged). b.plain) obeyed.rest ∙ stands_told.plain;
-            joined = ap (λ (b : Bridged). b.joined) obeyed.rest ∙ stands_told.joined;
+            replaced = ap (λ (b : Bridged). b.replaced) obeyed.rest ∙ stands_told.replaced;
             records = ap (λ (b : Bridged). b.records) obeyed.rest ∙ stands_told.records;
           };
           emits = ap (λ (m : ℕ). output_at m after) is.stands.moment
@@ -375,8 +376,8 @@ nothing_further p s h e unasked unplain =
 
 -- nothing is said
 pub is_beside_step : (e : Entry) (before : Bridged) (parts : BesideKept) → AreTold e before parts → IsAlone before.output before.parts → beside_plain parts ≡ []
-    → ((c : Settings) (s : ℕ) (h : History) → plain_of before.plain before.gateway.moment (own_said before.joined c s h e before.output.outbox ++ beside_utterances parts) ≡ [])
-    → ((c : Settings) (s : ℕ) (h : History) → voice_after before.plain before.gateway.moment (own_said before.joined c s h e before.output.outbox ++ beside_utterances parts) ≡ before.plain)
+    → ((c : Settings) (s : ℕ) (h : History) → plain_of before.plain before.gateway.moment (own_said before.replaced c s h e before.output.outbox ++ beside_utterances parts) ≡ [])
+    → ((c : Settings) (s : ℕ) (h : History) → voice_after before.plain before.gateway.moment (own_said before.replaced c s h e before.output.outbox ++ beside_utterances parts) ≡ before.plain)
     → IsBesideStep e before (record before { parts = parts })
 is_beside_step e before parts told alone unsaid none same = record {
   started = refl;
@@ -385,7 +386,7 @@ is_beside_step e before parts told alone unsaid none same = record {
   outbox = refl;
   ordered = alone.ordered;
   parts = told;
-  joined = refl;
+  replaced = refl;
   records = refl;
   plain = λ c s h taken. ap (λ (x : Emitted). emits_of x ++ beside_plain parts) alone.plain ∙ unsaid ∙ sym (none c s h);
   voice = λ c s h taken. sym (same c s h);
@@ -412,12 +413,12 @@ none_replaced : (replaced : Bool) (us : List Utterance) → us ≡ [] → (if re
 none_replaced true us none = refl
 none_replaced false us none = none
 
-pub silent_step : (joined : Bool) (c : Settings) (s : ℕ) (h : History) (e : Entry) (o : Output) (parts : BesideKept) → beside_output parts ≡ [] → IsUnposted o
-    → own_said joined c s h e o ++ beside_utterances parts ≡ []
-silent_step joined c s h e o parts none unposted =
+pub silent_step : (replaced : Replaced) (c : Settings) (s : ℕ) (h : History) (e : Entry) (o : Output) (parts : BesideKept) → beside_output parts ≡ [] → IsUnposted o
+    → own_said replaced c s h e o ++ beside_utterances parts ≡ []
+silent_step replaced c s h e o parts none unposted =
     let stream = option_map reading_stream (said_at c s h e) in
     ap (λ (us : List Utterance). us ++ beside_utterances parts)
-    (none_replaced (is_replaced joined stream) (uttered stream (emits_of o.emits))
+    (none_replaced (is_replaced replaced stream) (uttered stream (emits_of o.emits))
     (uttered_behind stream o.emits.told o.emits.posted unposted.told ∙ ap (uttered stream) unposted.posted))
     ∙ beside.unsaid parts none
 
@@ -429,10 +430,10 @@ nothing_kept voice m us none = ap (voice_after voice m) none ∙ none_voice voic
 
 -- all datagrams are said
 pub is_said_step : (e : Entry) (before : Bridged) (parts after : BesideKept) (output : CallOutput) (v v' : Voice) → before.plain ≡ Some v
-    → AreTold e before parts → IsAlone before.output before.parts → IsSaidAgain before.gateway before.joined v before.output parts v' output after
+    → AreTold e before parts → IsAlone before.output before.parts → IsSaidAgain before.gateway before.replaced v before.output parts v' output after
     → IsBesideStep e before (record before { parts = after; plain = Some v'; output = output })
 is_said_step e before parts after output v v' is told alone again =
-    let us = λ (c : Settings) (s : ℕ) (h : History) (k : BesideKept). own_said before.joined c s h e before.output.outbox ++ beside_utterances k in
+    let us = λ (c : Settings) (s : ℕ) (h : History) (k : BesideKept). own_said before.replaced c s h e before.output.outbox ++ beside_utterances k in
     let m = before.gateway.moment in
     record {
       started = refl;
@@ -443,44 +444,44 @@ is_said_step e before parts after output v v' is told alone again =
       parts = λ r c s h are start could taken stands.
           let given = told r c s h are start could taken stands in
           record { stood = again.kept r c s (e ∷ h) given.stood; emits = again.beside ∙ given.emits; said = again.said ∙ given.said };
-      joined = refl;
+      replaced = refl;
       records = refl;
       plain = λ c s h taken.
           again.plain c s h e taken
-          ∙ ap (λ (more : List Utterance). (said_all v m (own_said before.joined c s h e before.output.outbox ++ more)).plain) (sym again.said)
+          ∙ ap (λ (more : List Utterance). (said_all v m (own_said before.replaced c s h e before.output.outbox ++ more)).plain) (sym again.said)
           ∙ sym (ap (λ (x : Option Voice). plain_of x m (us c s h after)) is);
       voice = λ c s h taken.
           ap Some (again.voice c s h e taken
-          ∙ ap (λ (more : List Utterance). (said_all v m (own_said before.joined c s h e before.output.outbox ++ more)).after) (sym again.said))
+          ∙ ap (λ (more : List Utterance). (said_all v m (own_said before.replaced c s h e before.output.outbox ++ more)).after) (sym again.said))
           ∙ sym (ap (λ (x : Option Voice). voice_after x m (us c s h after)) is);
     }
 
 -- ---- the datagrams of the gateway itself and of the parts, one after the other
 
-abbrev pub AreSaidOf : Machine → Bool → Output → Voice → Voice → List Emit → List Emit → List Utterance → Type 0
-AreSaidOf gateway joined outbox v v' own beside_said parts =
+abbrev pub AreSaidOf : Machine → Replaced → Output → Voice → Voice → List Emit → List Emit → List Utterance → Type 0
+AreSaidOf gateway replaced outbox v v' own beside_said parts =
     (c : Settings) (s : ℕ) (h : History) (e : Entry) → IsTaken c s h e gateway outbox
-    → (own ++ beside_said ≡ (said_all v gateway.moment (own_said joined c s h e outbox ++ parts)).plain)
-    × (v' ≡ (said_all v gateway.moment (own_said joined c s h e outbox ++ parts)).after)
+    → (own ++ beside_said ≡ (said_all v gateway.moment (own_said replaced c s h e outbox ++ parts)).plain)
+    × (v' ≡ (said_all v gateway.moment (own_said replaced c s h e outbox ++ parts)).after)
 
-pub said_again : (gateway : Machine) (joined : Bool) (outbox : Output) (stream : Option Stream) (v middle v' : Voice) (own beside_said : List Emit) (parts : List Utterance)
+pub said_again : (gateway : Machine) (replaced : Replaced) (outbox : Output) (stream : Option Stream) (v middle v' : Voice) (own beside_said : List Emit) (parts : List Utterance)
     → IsOwnStream gateway outbox stream
-    → middle ≡ (said_all v gateway.moment (own_uttered joined stream (emits_of outbox.emits))).after
-    → own ≡ (said_all v gateway.moment (own_uttered joined stream (emits_of outbox.emits))).plain
+    → middle ≡ (said_all v gateway.moment (own_uttered replaced stream (emits_of outbox.emits))).after
+    → own ≡ (said_all v gateway.moment (own_uttered replaced stream (emits_of outbox.emits))).plain
     → v' ≡ (said_all middle gateway.moment parts).after
     → beside_said ≡ (said_all middle gateway.moment parts).plain
-    → AreSaidOf gateway joined outbox v v' own beside_said parts
-said_again gateway joined outbox stream v middle v' own beside_said parts streams first_after first_plain then_after then_plain c s h e taken =
+    → AreSaidOf gateway replaced outbox v v' own beside_said parts
+said_again gateway replaced outbox stream v middle v' own beside_said parts streams first_after first_plain then_after then_plain c s h e taken =
     let m = gateway.moment in
     let es = emits_of outbox.emits in
-    let us : own_uttered joined stream es ≡ own_said joined c s h e outbox = ap (λ (x : Option Stream). own_uttered joined x es) (streams c s h e taken) in (
+    let us : own_uttered replaced stream es ≡ own_said replaced c s h e outbox = ap (λ (x : Option Stream). own_uttered replaced x es) (streams c s h e taken) in (
       ap (λ (x : List Emit). x ++ beside_said) first_plain
-          ∙ ap (λ (x : List Emit). (said_all v m (own_uttered joined stream es)).plain ++ x) then_plain
-          ∙ ap (λ (x : Voice). (said_all v m (own_uttered joined stream es)).plain ++ (said_all x m parts).plain) first_after
-          ∙ sym (append_plain v m (own_uttered joined stream es) parts)
+          ∙ ap (λ (x : List Emit). (said_all v m (own_uttered replaced stream es)).plain ++ x) then_plain
+          ∙ ap (λ (x : Voice). (said_all v m (own_uttered replaced stream es)).plain ++ (said_all x m parts).plain) first_after
+          ∙ sym (append_plain v m (own_uttered replaced stream es) parts)
           ∙ ap (λ (x : List Utterance). (said_all v m (x ++ parts)).plain) us,
       then_after
           ∙ ap (λ (x : Voice). (said_all x m parts).after) first_after
-          ∙ sym (append_after v m (own_uttered joined stream es) parts)
+          ∙ sym (append_after v m (own_uttered replaced stream es) parts)
           ∙ ap (λ (x : List Utterance). (said_all v m (x ++ parts)).after) us,
     )

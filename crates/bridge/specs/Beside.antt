@@ -13,6 +13,7 @@ use Rattle.further_bridge.proofs.Form.{quantities}
 use Rattle.source_changes.proofs.Form.{sources}
 use Rattle.own_address.proofs.Form.{own_address}
 use Rattle.joined_heading.proofs.Form.{joined_headings}
+use Rattle.navigation.proofs.Form.{plotters}
 use Rattle.supervision.proofs.Form.{supervision}
 
 -- those that further keys ask for
@@ -22,8 +23,9 @@ further =
     (both (lane sources)
     (both (lane own_address)
     (both (lane joined_headings)
+    (both (lane plotters)
     (both (lane supervision)
-    nothing))))
+    nothing)))))
 
 -- all
 abbrev pub beside : Form

@@ -20,6 +20,7 @@ use Rattle.bridge.specs.Beside.{BesideKept, are_beside, beside, beside_give, bes
 use Rattle.bridge.specs.Gate.{own_uttered, plain_of, stepped, voice_after, voice_by, voice_in}
 use Rattle.bridge.specs.Kept.{Bridged, no_output, output_at, output_of, plain_output}
 use Rattle.bridge.specs.BridgeSettings.{BridgeSettings}
+use Rattle.bridge.specs.declared.replaced.Replaced.{Replaced}
 
 pub record BridgeStands (p : BridgeSettings) (s : ℕ) (h : History) (b : Bridged) : Type 0 where
   pub settings : AreSettings p.gateway
@@ -28,7 +29,7 @@ pub record BridgeStands (p : BridgeSettings) (s : ℕ) (h : History) (b : Bridge
   pub gateway : Stands by_keys p.gateway s h b.gateway
   pub parts : are_beside p.parts p.gateway s h b.parts
   pub plain : b.plain ≡ voice_in p s h
-  pub joined : b.joined ≡ p.joined
+  pub replaced : b.replaced ≡ p.replaced
   pub records : b.records ≡ p.records
 
 -- ---- a bridge that wasn't started, whenever it will be
@@ -40,7 +41,7 @@ pub record IsNew (p : BridgeSettings) (b : Bridged) : Type 0 where
   pub gateway : b.gateway ≡ opened_machine p.gateway
   pub parts : AreNew are_beside beside_output beside_plain p.parts p.gateway b.parts
   pub plain : b.plain ≡ voice_by p.plain
-  pub joined : b.joined ≡ p.joined
+  pub replaced : b.replaced ≡ p.replaced
   pub records : b.records ≡ p.records
 
 -- the start: the gateway claims its address, and asks all for theirs
@@ -70,7 +71,7 @@ pub record IsForgotten (before after : Bridged) : Type 0 where
   pub start : after.start ≡ before.start
   pub gateway : after.gateway ≡ before.gateway
   pub plain : after.plain ≡ before.plain
-  pub joined : after.joined ≡ before.joined
+  pub replaced : after.replaced ≡ before.replaced
   pub records : after.records ≡ before.records
   pub output : after.output ≡ no_output
   pub kept : Keeps are_beside before.parts after.parts
@@ -88,9 +89,9 @@ AreTold e before after =
     (r : beside.rule) (c : Settings) (s : ℕ) (h : History) → AreSettings c → before.start ≡ s → IsHistory (e ∷ h)
     → IsTaken c s h e before.gateway before.output.outbox → are_beside r c s h before.parts → IsGiven are_beside beside_give beside_utter beside_output beside_utterances r c s h e after
 
--- what the gateway itself gave has the stream of the reading that it says, and isn't said plain where joined headings are said in its place
-abbrev pub own_said : Bool → Settings → ℕ → History → Entry → Output → List Utterance
-own_said joined c s h e left = own_uttered joined (option_map reading_stream (said_at c s h e)) (emits_of left.emits)
+-- what the gateway itself gave has the stream of the reading that it says, and isn't said plain where a part is said in its place
+abbrev pub own_said : Replaced → Settings → ℕ → History → Entry → Output → List Utterance
+own_said replaced c s h e left = own_uttered replaced (option_map reading_stream (said_at c s h e)) (emits_of left.emits)
 
 pub record IsBesideStep (e : Entry) (before after : Bridged) : Type 0 where
   pub started : after.started ≡ before.started
@@ -99,13 +100,13 @@ pub record IsBesideStep (e : Entry) (before after : Bridged) : Type 0 where
   pub outbox : after.output.outbox ≡ before.output.outbox
   pub ordered : after.output.ordered ≡ 0
   pub parts : AreTold e before after.parts
-  pub joined : after.joined ≡ before.joined
+  pub replaced : after.replaced ≡ before.replaced
   pub records : after.records ≡ before.records
   pub plain : (c : Settings) (s : ℕ) (h : History) → IsTaken c s h e before.gateway before.output.outbox
       → plain_output after.output after.parts
-      ≡ plain_of before.plain before.gateway.moment (own_said before.joined c s h e before.output.outbox ++ beside_utterances after.parts)
+      ≡ plain_of before.plain before.gateway.moment (own_said before.replaced c s h e before.output.outbox ++ beside_utterances after.parts)
   pub voice : (c : Settings) (s : ℕ) (h : History) → IsTaken c s h e before.gateway before.output.outbox
-      → after.plain ≡ voice_after before.plain before.gateway.moment (own_said before.joined c s h e before.output.outbox ++ beside_utterances after.parts)
+      → after.plain ≡ voice_after before.plain before.gateway.moment (own_said before.replaced c s h e before.output.outbox ++ beside_utterances after.parts)
 
 -- the stream of what the gateway itself says at the event that it has taken
 abbrev pub IsOwnStream : Machine → Output → Option Stream → Type 0
@@ -118,16 +119,16 @@ pub record IsUnposted (outbox : Output) : Type 0 where
   pub posted : outbox.emits.posted ≡ []
 
 -- its datagrams are said once more as plain sentences: nothing else changes, and the parts stand for the same histories
-pub record IsSaidAgain (gateway : Machine) (joined : Bool) (v : Voice) (output : CallOutput) (parts : BesideKept) (v' : Voice) (output' : CallOutput) (parts' : BesideKept) : Type 0 where
+pub record IsSaidAgain (gateway : Machine) (replaced : Replaced) (v : Voice) (output : CallOutput) (parts : BesideKept) (v' : Voice) (output' : CallOutput) (parts' : BesideKept) : Type 0 where
   pub outbox : output'.outbox ≡ output.outbox
   pub ordered : output'.ordered ≡ output.ordered
   pub kept : Keeps are_beside parts parts'
   pub beside : beside_output parts' ≡ beside_output parts
   pub said : beside_utterances parts' ≡ beside_utterances parts
   pub plain : (c : Settings) (s : ℕ) (h : History) (e : Entry) → IsTaken c s h e gateway output.outbox
-      → plain_output output' parts' ≡ (said_all v gateway.moment (own_said joined c s h e output.outbox ++ beside_utterances parts)).plain
+      → plain_output output' parts' ≡ (said_all v gateway.moment (own_said replaced c s h e output.outbox ++ beside_utterances parts)).plain
   pub voice : (c : Settings) (s : ℕ) (h : History) (e : Entry) → IsTaken c s h e gateway output.outbox
-      → v' ≡ (said_all v gateway.moment (own_said joined c s h e output.outbox ++ beside_utterances parts)).after
+      → v' ≡ (said_all v gateway.moment (own_said replaced c s h e output.outbox ++ beside_utterances parts)).after
 
 -- the gateway takes the command that the event left: what it gives stands behind all that the event gave
 pub record IsObeyed (o : Command) (before after : Bridged) : Type 0 where

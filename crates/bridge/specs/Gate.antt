@@ -19,6 +19,7 @@ use Rattle.bus_answers.specs.AnsweringPart.{answering_gives}
 use Rattle.joined_rmc.specs.RmcPart.{joining_gives}
 use Rattle.bridge.specs.Beside.{beside_give, beside_utter, further}
 use Rattle.bridge.specs.BridgeSettings.{BridgeSettings, PlainRule}
+use Rattle.bridge.specs.declared.replaced.Replaced.{Replaced}
 
 -- ---- plain sentences, where they are said
 
@@ -36,14 +37,15 @@ abbrev pub voice_after : Option Voice → ℕ → List Utterance → Option Voic
 voice_after None m us = None
 voice_after (Some v) m us = Some (said_all v m us).after
 
--- ---- joined headings are said plain in place of the row of the magnetic heading
+-- ---- a part is said plain in place of a row
 
-abbrev pub is_replaced : Bool → Option Stream → Bool
-is_replaced joined (Some (stream.Row row.HeadingMagnetic)) = joined
-is_replaced joined _ = false
+abbrev pub is_replaced : Replaced → Option Stream → Bool
+is_replaced replaced (Some (stream.Row row.HeadingMagnetic)) = replaced.heading
+is_replaced replaced (Some (stream.Row row.CrossTrack)) = replaced.cross_track
+is_replaced replaced _ = false
 
-abbrev pub own_uttered : Bool → Option Stream → List Emit → List Utterance
-own_uttered joined stream emits = if is_replaced joined stream then [] else uttered stream emits
+abbrev pub own_uttered : Replaced → Option Stream → List Emit → List Utterance
+own_uttered replaced stream emits = if is_replaced replaced stream then [] else uttered stream emits
 
 module _ (p : BridgeSettings) (s : ℕ) where
   -- what the parts beside the gateway give
@@ -56,7 +58,7 @@ module _ (p : BridgeSettings) (s : ℕ) where
 
   -- the datagrams of it that are said plain, each with its stream: the gateway itself says a reading
   abbrev pub own_utters : History → Entry → List Utterance
-  own_utters h e = own_uttered p.joined (option_map reading_stream (said_at p.gateway s h e)) (out p.gateway s h e)
+  own_utters h e = own_uttered p.replaced (option_map reading_stream (said_at p.gateway s h e)) (out p.gateway s h e)
 
   abbrev pub all_utter : History → Entry → List Utterance
   all_utter h e = own_utters h e ++ beside_utter p.parts p.gateway s h e

@@ -7,6 +7,7 @@ use Rattle.gate_outbox.specs.Output.{Output, emits_of, no_emits, nothing}
 use Rattle.plain_out.specs.Pace.{Voice}
 use Rattle.bridge.specs.Beside.{BesideKept, beside_output, beside_plain}
 use Rattle.bridge.specs.declared.call_output.CallOutput.{CallOutput}
+use Rattle.bridge.specs.declared.replaced.Replaced.{Replaced}
 
 pub record Bridged : Type 0 where
   pub started : Bool
@@ -17,8 +18,8 @@ pub record Bridged : Type 0 where
   pub parts : BesideKept
   -- who says plain sentences
   pub plain : Option Voice
-  -- whether plain sentences have joined headings in place of the row of the magnetic heading
-  pub joined : Bool
+  -- the rows that plain sentences lack, since what a part says stands in their place
+  pub replaced : Replaced
   -- whether what comes is written down
   pub records : Bool
   -- what the gateway itself gave at the last call

@@ -17,7 +17,7 @@ use Rattle.bridge.specs.Speaking.{Speaks}
 abbrev pub DatagramsAreRead : Type 0
 DatagramsAreRead = (p : BridgeSettings) (s : ℕ) (h : History) (e : Entry) → Speaks p → EachSays (nets_in (tagged_out p s h e)) (all_say p s h e)
 
--- so plain sentences that don't pause are those that were said, all of them but the row of the magnetic heading where joined headings are said
+-- so plain sentences that don't pause are those that were said, all of them but the rows that a part is said in place of
 abbrev pub PlainSaysAll : Type 0
 PlainSaysAll =
     (p : BridgeSettings) (s : ℕ) (h : History) (e : Entry) (rule : PlainRule) → Speaks p → p.plain ≡ Some rule → rule.every ≡ 0

@@ -16,11 +16,11 @@ use Rattle.further_bridge.specs.FurtherRule.{FurtherRule}
 use Rattle.supervision.specs.Supervised.{SupervisionRule}
 use Rattle.bridge.specs.Beside.{further}
 use Rattle.bridge.specs.Gate.{gate}
-use Rattle.bridge.specs.BridgeSettings.{BridgeSettings}
+use Rattle.bridge.specs.BridgeSettings.{BridgeSettings, none_replaced}
 
 -- a gateway of two devices that says neither RMC nor reports of ships around
 abbrev pub alone : BridgeSettings
-alone = record { gateway = two_devices; parts = (Some [], (None, (None, further.none))); plain = None; joined = false; records = false }
+alone = record { gateway = two_devices; parts = (Some [], (None, (None, further.none))); plain = None; replaced = none_replaced; records = false }
 
 -- one whose product information is ten bytes, which says RMC on RCOM and reports of ships on TGTD
 abbrev pub all_parts : BridgeSettings
@@ -34,7 +34,7 @@ all_parts = record {
     ),
   );
   plain = None;
-  joined = false;
+  replaced = none_replaced;
   records = false;
 }
 
@@ -47,7 +47,7 @@ asking p quantities sources address =
 abbrev pub supervised : BridgeSettings → SupervisionRule → BridgeSettings
 supervised p rule =
     let asked = p.parts.1.1.1 in
-    record p { parts = (p.parts.0, (p.parts.1.0, (p.parts.1.1.0, (asked.0, (asked.1.0, (asked.1.1.0, (None, (Some rule, further.none.1.1.1.1.1)))))))) }
+    record p { parts = (p.parts.0, (p.parts.1.0, (p.parts.1.1.0, (asked.0, (asked.1.0, (asked.1.1.0, (None, (None, (Some rule, further.none.1.1.1.1.1.1))))))))) }
 
 -- they started at this moment, and emit this at the events
 abbrev pub PartsEmit : BridgeSettings → ℕ → List Entry → List Emitted → Type 0

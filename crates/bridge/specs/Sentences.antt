@@ -22,9 +22,9 @@ reading_says c (Some r) = sentences_of (rule_of c (row_of r)).talker c.ths r ∷
 abbrev pub rows_say : Settings → ℕ → History → Entry → Spoken
 rows_say c s h e = reading_says c (said_at c s h e)
 
--- once more as a plain sentence, where no joined heading is said in its place
+-- once more as a plain sentence, where no part is said in its place
 abbrev pub rows_said_again : BridgeSettings → ℕ → History → Entry → Spoken
-rows_said_again p s h e = if is_replaced p.joined (option_map reading_stream (said_at p.gateway s h e)) then [] else rows_say p.gateway s h e
+rows_said_again p s h e = if is_replaced p.replaced (option_map reading_stream (said_at p.gateway s h e)) then [] else rows_say p.gateway s h e
 
 -- ---- then what the parts say
 

@@ -5,6 +5,7 @@ use bus_answers::{Answering, AnswersPlace};
 use further_bridge::{FurtherBridge, QuantitiesPlace};
 use joined_heading::{HeadingPlace, JoinedHeading};
 use joined_rmc::{Joining, RmcPlace};
+use navigation::{NavPlace, Navigation};
 use own_address::{AddressPlace, OwnAddress};
 use parts::{Lane, Seldom};
 use source_changes::{SourceWatch, SourcesPlace};
@@ -28,7 +29,10 @@ type Further = (
             Option<Lane<OwnAddress, AddressPlace>>,
             (
                 Option<Lane<JoinedHeading, HeadingPlace>>,
-                (Option<Lane<Supervision, SupervisionPlace>>, ()),
+                (
+                    Option<Lane<Navigation, NavPlace>>,
+                    (Option<Lane<Supervision, SupervisionPlace>>, ()),
+                ),
             ),
         ),
     ),

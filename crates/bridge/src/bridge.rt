@@ -9,17 +9,17 @@ ghost use Rattle.settings.specs.Settings.{IsSettings};
 ghost use Rattle.settings.specs.Setup.{IsSetup, alone};
 ghost use Rattle.bridge.specs.Beside.{beside_plain};
 ghost use Rattle.bridge.specs.BridgeStands.{IsBesideStep, IsBridgeStep, IsForgotten, IsGatewayStep, IsNew, IsObeyed, IsOrder, IsOwnStream, IsSaidAgain, IsStart, IsUnposted};
-ghost use Rattle.bridge.specs.Gate.{is_replaced, own_uttered, voice_by};
+ghost use Rattle.bridge.specs.Gate.{own_uttered, voice_by};
 ghost use Rattle.bridge.specs.Kept.{IsAlone, no_output, output_of};
 ghost use Rattle.bridge.specs.BridgeSettings.{bridge_settings_of};
 
 use crate::beside::Beside;
 use crate::call_output::{CallOutput, emit_in, len_in};
+use crate::replaced::Replaced;
 use gate_core::{Command, Gateway, Outbox, moment_of};
 use gate_events::{Emit, Event};
 use parts::{Parts, SelectedMessage, Step};
 use plain_out::{Stream, Voice, say_plain};
-use readings::Row;
 use settings::{Settings, Setup};
 use std::alloc::{AllocError, Global};
 use std::marker::Model;
@@ -34,8 +34,8 @@ pub struct Bridge {
     parts: Beside,
     /// Who says plain sentences.
     plain: Option<Voice>,
-    /// Whether plain sentences have joined headings in place of the row of the magnetic heading.
-    joined: bool,
+    /// The rows that plain sentences lack, since what a part says stands in their place.
+    replaced: Replaced,
     /// Whether what comes is written down.
     records: bool,
     /// Whether the last call may have given more than the gateway itself emits. Most give no more, and then no part is asked for its output.
@@ -57,7 +57,7 @@ impl Model for Bridge {
       gateway = b.gateway;
       parts = b.parts;
       plain = b.plain;
-      joined = b.joined;
+      replaced = b.replaced;
       records = b.records;
       output = b.output.value;
     } };
@@ -96,7 +96,7 @@ impl Bridge {
             start: 0,
             parts,
             plain,
-            joined: setup.heading.is_some(),
+            replaced: Replaced::by(setup),
             records: setup.record,
             gave: false,
             output,
@@ -184,7 +184,7 @@ impl Bridge {
         if let Some(voice) = &mut self.plain {
             if self.gave || posts(&output.outbox) {
                 self.gave = true;
-                say_again(&self.gateway, self.joined, voice, output, &mut self.parts);
+                say_again(&self.gateway, self.replaced, voice, output, &mut self.parts);
             }
         }
     }
@@ -284,19 +284,9 @@ fn own_stream(gateway: &Gateway, outbox: &Outbox) -> Option<Stream>
     }
 }
 
-/// Whether joined headings are said plain in place of this stream.
-fn is_replaced(joined: bool, stream: Option<Stream>) -> bool
-    ensures { result ≡ is_replaced joined stream }
-{
-    match stream {
-        Some(Stream::Row(Row::HeadingMagnetic)) => joined,
-        _ => false,
-    }
-}
-
-/// Says the gateway's own datagram once more, where no joined heading is said in its place.
+/// Says the gateway's own datagram once more, where no part is said in its place.
 fn say_own(
-    joined: bool,
+    replaced: Replaced,
     voice: &mut Voice,
     moment: u64,
     stream: Option<Stream>,
@@ -304,10 +294,10 @@ fn say_own(
 )
     requires { output.old.plain ≡ no_emits }
     ensures kept { output.new ≡ record output.old { plain = output.new.plain } }
-    ensures voice { voice.new ≡ (said_all voice.old moment (own_uttered joined stream (emits_of output.old.outbox.emits))).after }
-    ensures plain { emits_of output.new.plain ≡ (said_all voice.old moment (own_uttered joined stream (emits_of output.old.outbox.emits))).plain }
+    ensures voice { voice.new ≡ (said_all voice.old moment (own_uttered replaced stream (emits_of output.old.outbox.emits))).after }
+    ensures plain { emits_of output.new.plain ≡ (said_all voice.old moment (own_uttered replaced stream (emits_of output.old.outbox.emits))).plain }
 {
-    if !is_replaced(joined, stream) {
+    if !replaced.has(stream) {
         say_plain(
             voice,
             moment,
@@ -322,18 +312,18 @@ fn say_own(
 #[inline(never)]
 fn say_again(
     gateway: &Gateway,
-    joined: bool,
+    replaced: Replaced,
     voice: &mut Voice,
     output: &mut CallOutput,
     parts: &mut Beside,
 )
     requires plain { output.old.plain ≡ no_emits }
     requires parts { beside_plain parts.old ≡ [] }
-    ensures { IsSaidAgain gateway.now joined voice.old output.old parts.old voice.new output.new parts.new }
+    ensures { IsSaidAgain gateway.now replaced voice.old output.old parts.old voice.new output.new parts.new }
 {
     let moment = gateway.moment();
     let stream = own_stream(gateway, &output.outbox);
-    say_own(joined, voice, moment, stream, output);
+    say_own(replaced, voice, moment, stream, output);
     parts.say_plain(voice, moment);
 }
 

@@ -11,6 +11,7 @@ mod call_output;
 pub mod cases;
 pub mod laws;
 pub mod net_laws;
+mod replaced;
 
 pub use bridge::Bridge;
 pub use gate_core::{Command, HeldCounts, moment_of};

@@ -7,7 +7,7 @@ pub fn datagrams_are_read()
     ensures { DatagramsAreRead }
 {}
 
-/// Plain sentences that don't pause are all that was said, but for the row of the magnetic heading where joined headings are said in its place; those
+/// Plain sentences that don't pause are all that was said, but for a row that a part is said in place of; those
 /// that pause are some of it, in order.
 pub fn plain_sentences_say_all()
     ensures all { PlainSaysAll }

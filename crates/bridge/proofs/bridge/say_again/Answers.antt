@@ -14,10 +14,10 @@ returns c =
     let v = c.args.voice.now in
     let middle = c.say_own.new.voice in
     let stream = c.own_stream-stream.result in
-    let us = own_uttered c.args.joined stream (emits_of output.outbox.emits) in
+    let us = own_uttered c.args.replaced stream (emits_of output.outbox.emits) in
     let parts = beside_utterances c.args.parts.now in
     let at : c.moment-moment.result ≡ gateway.moment = c.moment-moment.ensures.moment in
-    let all = said_again gateway c.args.joined output.outbox stream v middle c.say_plain.new.voice (emits_of c.say_own.new.output.plain) (beside_plain c.say_plain.new.self) parts
+    let all = said_again gateway c.args.replaced output.outbox stream v middle c.say_plain.new.voice (emits_of c.say_own.new.output.plain) (beside_plain c.say_plain.new.self) parts
     c.own_stream-stream.ensures
     (c.say_own.ensures.voice ∙ ap (λ (m : ℕ). (said_all v m us).after) at)
     (c.say_own.ensures.plain ∙ ap (λ (m : ℕ). (said_all v m us).plain) at)

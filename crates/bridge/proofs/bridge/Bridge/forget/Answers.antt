@@ -11,14 +11,14 @@ returns-then-self c =
     let parts = c.clear-then-self-2.new.self in
     let output : CallOutput = record { outbox = c.clear.new.self; ordered = 0; plain = c.clear-then-self.new.self } in
     let before : Bridged =
-    record { started = i.started; start = i.start; gateway = i.gateway; parts = i.parts; plain = i.plain; joined = i.joined; records = i.records; output = i.output.value } in
+    record { started = i.started; start = i.start; gateway = i.gateway; parts = i.parts; plain = i.plain; replaced = i.replaced; records = i.records; output = i.output.value } in
     let after : Bridged = record before { parts = parts; output = output } in
     subst (λ (b : Bridged). IsForgotten b after) c.self.view_is (record {
       started = refl;
       start = refl;
       gateway = refl;
       plain = refl;
-      joined = refl;
+      replaced = refl;
       records = refl;
       output = ap (λ (o : Output). let x : CallOutput = record { outbox = o; ordered = 0; plain = c.clear-then-self.new.self } in x) c.clear.ensures
           ∙ ap (λ (p : Emitted). let x : CallOutput = record { outbox = nothing; ordered = 0; plain = p } in x) c.clear-then-self.ensures;

@@ -7,6 +7,6 @@ pub returns-then-self : goal.returns-then-self
 returns-then-self c =
     let i = c.self.inside in
     let left = λ (o : CallOutput).
-    let b : Bridged = record { started = i.started; start = i.start; gateway = i.gateway; parts = i.parts; plain = i.plain; joined = i.joined; records = i.records; output = o } in
+    let b : Bridged = record { started = i.started; start = i.start; gateway = i.gateway; parts = i.parts; plain = i.plain; replaced = i.replaced; records = i.records; output = o } in
     length (output_of b) in
     c.len_in.ensures ∙ ap left c.deref.ensures ∙ ap (λ (b : Bridged). length (output_of b)) c.self.view_is

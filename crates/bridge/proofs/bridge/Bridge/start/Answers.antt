@@ -12,7 +12,7 @@ returns-clause-start c =
     let s = c.args.moment in
     let x = c.as_mut.result.now in
     let g = c.start.new.self in
-    let between : Bridged = record { started = i.started; start = i.start; gateway = i.gateway; parts = i.parts; plain = i.plain; joined = i.joined; records = i.records; output = x } in
+    let between : Bridged = record { started = i.started; start = i.start; gateway = i.gateway; parts = i.parts; plain = i.plain; replaced = i.replaced; records = i.records; output = x } in
     let left : CallOutput = record x { outbox = c.start.new.out } in
     let after : Bridged = record between { started = true; start = s; gateway = g; output = left } in
     let same : between ≡ c.forget.new.self = ap (λ (o : CallOutput). let b : Bridged = record between { output = o } in b) c.as_mut.ensures.value ∙ c.self.view_is in

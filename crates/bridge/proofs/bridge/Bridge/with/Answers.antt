@@ -12,6 +12,6 @@ returns c = record {
   gateway = c.in_ok-gateway.ensures;
   parts = c.in_ok-parts.ensures;
   plain = c.in_ok-plain.ensures;
-  joined = c.is_some.ensures;
+  replaced = c.by.ensures;
   records = refl;
 }
