@@ -32,6 +32,11 @@ use Rattle.joined_heading.specs.HeadingOut as heading
 use Rattle.joined_heading.specs.Variations as variations
 use Rattle.joined_heading.specs.Variations.{variation_done}
 use Rattle.joined_rmc.proofs.Form.{joined_rmc}
+use Rattle.counted_lines.specs.CountedLines.{posted_of}
+use Rattle.navigation.proofs.Form.{plotters}
+use Rattle.navigation.specs.Legs as legs
+use Rattle.navigation.specs.NavOut as nav
+use Rattle.navigation.specs.NavOut.{nav_done}
 use Rattle.own_address.proofs.Form.{own_address}
 use Rattle.source_changes.proofs.Form.{sources}
 use Rattle.supervision.proofs.Form.{supervision}
@@ -39,6 +44,7 @@ use Rattle.gateway_commands.specs.Beside.{beside}
 use Rattle.gateway_commands.specs.BridgeSettings.{BridgeSettings}
 use Rattle.recordings.proofs.Headings.{heading_without}
 use Rattle.recordings.proofs.Known.{known_without}
+use Rattle.recordings.proofs.Navigation.{nav_without}
 use Rattle.recordings.proofs.Gathered.{ap₃, joined, none_left, none_right}
 use Rattle.recordings.proofs.OwnAddress.{address_first, address_without}
 use Rattle.recordings.proofs.Quiet.{AreQuiet, Follows, GivesQuietly, IsQuiet, before, in_stream, nothing_quiet}
@@ -145,7 +151,18 @@ headings_gives = record {
       heading_without x c s m h newer e
       (heard_since variations.kind_of 0 c s m h le
       (none_left (heard_expired variations.kind_of 0 c s h m)
-      (heading.message_breaks (variation_done x c s h (tick m)) ++ heading.posted_of x.group c.sfi (heading.lines_said x c s h) (heading.texts_at x c s h (tick m))) none)
+      (heading.message_breaks (variation_done x c s h (tick m)) ++ posted_of x.group c.sfi (heading.lines_said x c s h) (heading.texts_at x c s h (tick m))) none)
+      newer (moment_of e));
+}
+
+plotters_gives : GivesQuietly plotters.give
+plotters_gives = record {
+  first = λ x c s. refl;
+  later = λ x c s m h le none newer e follow.
+      nav_without x c s m h newer e
+      (heard_since legs.kind_of x.slots c s m h le
+      (none_left (heard_expired legs.kind_of x.slots c s h m)
+      (nav.message_breaks (nav_done x c s h (tick m)) ++ posted_of x.group c.sfi (nav.lines_said x c s h) (nav.texts_at x c s h (tick m))) none)
       newer (moment_of e));
 }
 
@@ -173,6 +190,9 @@ address_quiet = record { gives = address_gives; says = in_stream None own_addres
 headings_quiet : IsQuiet joined_headings
 headings_quiet = record { gives = headings_gives; says = in_stream (Some stream.JoinedHeading) joined_headings.give headings_gives }
 
+plotters_quiet : IsQuiet plotters
+plotters_quiet = record { gives = plotters_gives; says = in_stream None plotters.give plotters_gives }
+
 supervision_quiet : IsQuiet supervision
 supervision_quiet = record { gives = supervision_gives; says = in_stream None supervision.give supervision_gives }
 
@@ -192,8 +212,9 @@ beside_quiet =
     (before sources _ sources_quiet
     (before own_address _ address_quiet
     (before joined_headings _ headings_quiet
+    (before plotters _ plotters_quiet
     (before supervision _ supervision_quiet
-    nothing_quiet)))))))
+    nothing_quiet))))))))
 
 -- ---- where nothing is given nothing is said, and nothing else is kept of plain sentences
 
@@ -229,8 +250,8 @@ module _ (p : BridgeSettings) (s m : ℕ) (h : History) (le : now h ≤ m) (none
   -- what is said, and what is kept of plain sentences
   own_alike : (newer : History) (e : Entry) → own_utters p s (newer ++ h) e ≡ own_utters p s (newer ++ tick m ∷ h) e
   own_alike newer e =
-      ap (λ (r : Option Reading). own_uttered p.joined (option_map reading_stream r) (out p.gateway s (newer ++ h) e)) (said_without p.gateway s m h newer e)
-      ∙ ap (own_uttered p.joined (option_map reading_stream (of_gateway.said_at p.gateway s (newer ++ tick m ∷ h) e))) (out_without p.gateway s m h newer e (over newer (moment_of e)))
+      ap (λ (r : Option Reading). own_uttered p.replaced (option_map reading_stream r) (out p.gateway s (newer ++ h) e)) (said_without p.gateway s m h newer e)
+      ∙ ap (own_uttered p.replaced (option_map reading_stream (of_gateway.said_at p.gateway s (newer ++ tick m ∷ h) e))) (out_without p.gateway s m h newer e (over newer (moment_of e)))
 
   utter_alike : (newer : History) (e : Entry) → Follows m newer e → all_utter p s (newer ++ h) e ≡ all_utter p s (newer ++ tick m ∷ h) e
   utter_alike newer e follow =
@@ -239,7 +260,7 @@ module _ (p : BridgeSettings) (s m : ℕ) (h : History) (le : now h ≤ m) (none
 
   tick_unsaid : all_utter p s h (tick m) ≡ []
   tick_unsaid =
-      joined (ap (own_uttered p.joined (option_map reading_stream (of_gateway.said_at p.gateway s h (tick m)))) (none_left (out p.gateway s h (tick m)) (given p s h (tick m)) tagged_none))
+      joined (ap (own_uttered p.replaced (option_map reading_stream (of_gateway.said_at p.gateway s h (tick m)))) (none_left (out p.gateway s h (tick m)) (given p s h (tick m)) tagged_none))
       (nothing_given p s h (tick m) (none_right (out p.gateway s h (tick m)) (given p s h (tick m)) tagged_none))
 
   voice_alike : (newer : History) (e : Entry) → Follows m newer e → voice_in p s (newer ++ h) ≡ voice_in p s (newer ++ tick m ∷ h)

@@ -15,7 +15,8 @@ use Rattle.gate_core.specs.Selected.{Selected, newer as newest, selected_at, sel
 use Rattle.joined_rmc.specs.Lasting.{said_within, still_held}
 use Rattle.joined_rmc.specs.RmcOut.{variation_in}
 use Rattle.bus_listener.specs.Heard.{heard_expired}
-use Rattle.joined_heading.specs.HeadingOut.{heading_out, is_measured, lines_said, magnetic_in, message_breaks, posted_of, texts_at, texts_of}
+use Rattle.joined_heading.specs.HeadingOut.{heading_out, is_measured, lines_said, magnetic_in, message_breaks, texts_at, texts_of}
+use Rattle.counted_lines.specs.CountedLines.{posted_of}
 use Rattle.joined_heading.specs.HeadingRule.{HeadingRule}
 use Rattle.joined_heading.specs.Variations.{chosen_variation, kind_of, last_variation, lasting_variation, variation_alone, variation_at, variation_done, variation_of, variation_receiver, variation_told}
 use Rattle.recordings.proofs.Places.{apart_from, closed}

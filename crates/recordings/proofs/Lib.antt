@@ -16,6 +16,7 @@ pub mod Listened
 pub mod Rmc
 pub mod Ships
 pub mod Headings
+pub mod Navigation
 pub mod OwnAddress
 pub mod Watched
 pub mod Quiet

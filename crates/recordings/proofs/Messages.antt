@@ -114,19 +114,27 @@ module _ (tells : Message → Option Told) (n : ℕ) (unseen : (d : Message) →
   counts_as timeout m None = refl
   counts_as timeout m (Some d) = ap (is_current timeout m d.moment) (unseen d)
 
-  outranks_as : (rule : SubjectRule) (holders : List (Option Holder)) (subject : ℕ) (rank : Rank) (m : ℕ) (older : List Message) (source : ℕ) → MessagesApart n older
-      → outranks tells rule (map (holder_as (closed n)) holders) subject rank m (map (message_as (closed n)) older) source ≡ outranks tells rule holders subject rank m older source
-  outranks_as rule holders subject rank m older source apart =
-      ap (λ (x : Option Rank). is_better rank x && is_fresh tells rule (map (holder_as (closed n)) holders) subject source m (map (message_as (closed n)) older))
-      (ap (holder_rank rule) (at_as (closed n) holders source) ∙ by (holder_at holders source))
-      ∙ ap (λ (b : Bool). is_better rank (holder_rank rule (holder_at holders source)) && b)
-      (ap (still_counts tells rule.timeout m) (last_as holders subject source older apart) ∙ counts_as rule.timeout m (last_of tells holders subject source older))
+  pub rank_as : (rule : SubjectRule) (holders : List (Option Holder)) (source : ℕ)
+      → holder_rank rule (holder_at (map (holder_as (closed n)) holders) source) ≡ holder_rank rule (holder_at holders source)
+  rank_as rule holders source = ap (holder_rank rule) (at_as (closed n) holders source) ∙ by (holder_at holders source)
     where
       by : (x : Option Holder) → holder_rank rule (holder_as (closed n) x) ≡ holder_rank rule x
       by None = refl
       by (Some h) = refl
 
-  any_as : (p : ℕ → Bool) (q : ℕ → Bool) (older : List Message) → ((source : ℕ) → p source ≡ q source)
+  pub fresh_as : (rule : SubjectRule) (holders : List (Option Holder)) (subject source m : ℕ) (older : List Message) → MessagesApart n older
+      → is_fresh tells rule (map (holder_as (closed n)) holders) subject source m (map (message_as (closed n)) older) ≡ is_fresh tells rule holders subject source m older
+  fresh_as rule holders subject source m older apart =
+      ap (still_counts tells rule.timeout m) (last_as holders subject source older apart) ∙ counts_as rule.timeout m (last_of tells holders subject source older)
+
+  outranks_as : (rule : SubjectRule) (holders : List (Option Holder)) (subject : ℕ) (rank : Rank) (m : ℕ) (older : List Message) (source : ℕ) → MessagesApart n older
+      → outranks tells rule (map (holder_as (closed n)) holders) subject rank m (map (message_as (closed n)) older) source ≡ outranks tells rule holders subject rank m older source
+  outranks_as rule holders subject rank m older source apart =
+      ap (λ (x : Option Rank). is_better rank x && is_fresh tells rule (map (holder_as (closed n)) holders) subject source m (map (message_as (closed n)) older))
+      (rank_as rule holders source)
+      ∙ ap (λ (b : Bool). is_better rank (holder_rank rule (holder_at holders source)) && b) (fresh_as rule holders subject source m older apart)
+
+  pub any_as : (p : ℕ → Bool) (q : ℕ → Bool) (older : List Message) → ((source : ℕ) → p source ≡ q source)
       → list_any (λ d. p d.source) (map (message_as (closed n)) older) ≡ list_any (λ d. q d.source) older
   any_as p q [] same = refl
   any_as p q (d ∷ older) same =
