@@ -5,8 +5,8 @@ from typing import NamedTuple, Optional
 
 from .faults import PARTS
 
-# the path of the table that says whom the variation of joined headings is taken from
-VARIATION = ("heading",)
+# the paths of the tables that say whom the variation of joined headings is taken from, and which plotter is followed
+VARIATION, NAVIGATION = ("heading",), ("nav",)
 
 
 class Warned(NamedTuple):
@@ -52,13 +52,13 @@ class Accepted:
         return None if spans is None else self.document.place(spans[0][0])
 
     def chosen(self):
-        """What is taken from devices: each row, each further quantity that is asked for, and the variation of joined headings if these are, as the path of
-        its table and its table."""
+        """What is taken from devices: each row, each further quantity that is asked for, the variation of joined headings if these are, and navigation if it
+        is, as the path of its table and its table."""
         rows = [(("row", row.name), self.row(row.name)) for row in self.page.rows]
         is_asked_for = "group" in self.root.get("further", {})
         quantities = [(("further", name), self.quantity(name)) for name in self.page.quantities if is_asked_for]
-        heading = self.root.get("heading", {})
-        return rows + quantities + ([(VARIATION, heading)] if "group" in heading else [])
+        parts = [(path, self.root.get(path[0], {})) for path in (VARIATION, NAVIGATION)]
+        return rows + quantities + [(path, table) for path, table in parts if "group" in table]
 
     def patterns(self):
         """Each pattern of a device."""

@@ -4,7 +4,7 @@ silence among them."""
 from bus_names import function_of, maker_of
 from onboard.identifiers import name_fields, name_text
 
-from .accepted import VARIATION, Warned
+from .accepted import NAVIGATION, VARIATION, Warned
 from .heard import MAGNETIC
 from .keys import is_matched
 from .paces import MICROSECONDS
@@ -13,6 +13,8 @@ from .paces import MICROSECONDS
 MADE_UP_NAME = 0xFFFFFFFFFFFFFF00
 # the class and the function of what joins the bus with a network, as this gateway does
 GATEWAY = 25, 130
+# the row of what PGN 129283 says
+CROSS_TRACK = ("row", "cross_track")
 # sentences of the network that say a position, and are read without a key
 POSITIONS = {"GGA", "GLL"}
 
@@ -38,6 +40,8 @@ class Devices:
         yield from self.gateways_that_are_heard()
         yield from self.engines_that_are_two()
         yield from self.headings_of_nobody()
+        yield from self.plotters_of_nobody()
+        yield from self.plotters_that_are_two()
         yield from self.depths_said_twice()
         yield from self.fixes_in_rmc_alone()
 
@@ -94,6 +98,35 @@ class Devices:
             return
         yield Warned("heading.group", self.accepted.place("heading", "group"), why)
 
+    def plotters_of_nobody(self):
+        """Navigation where no plotter says one that a pilot follows."""
+        if NAVIGATION not in self.heard.tables:
+            return
+        sayers, taken = self.heard.sayers_of(NAVIGATION), self.plotters_that_are_taken()
+        usable, followed = (list(filter(said.__contains__, taken)) for said in (self.heard.plotters.usable(), self.heard.plotters.followed()))
+        if not taken:
+            why = "those that say where they go in the recording aren't taken" if sayers else "nobody in the recording says where it goes (PGN 129284)"
+            why += ": there is no RMB and no APB"
+        elif not usable:
+            why = f"{all_of(taken)} had no route in the recording, so no bearing of a destination: RMB and APB have status V"
+        elif not followed:
+            why = f"{all_of(usable)} named no destination twice in a row, and a destination that is named once isn't said"
+        elif not any((CROSS_TRACK, *who) in self.heard.said for who in followed):
+            why = f"{all_of(followed)} said no cross track error (PGN 129283), and that of another device isn't taken: RMB and APB have status V"
+        else:
+            return
+        yield Warned("nav.group", self.accepted.place("nav", "group"), why)
+
+    def plotters_that_are_two(self):
+        """Several plotters, where nobody says which one the pilot follows."""
+        taken = self.plotters_that_are_taken() if NAVIGATION in self.heard.tables else []
+        if len({name for _, name in taken}) > 1 and not self.heard.tables[NAVIGATION].get("sources"):
+            why = f"{all_of(taken)} say where they go. The pilot follows the smaller NAME of those that have a route. List the one that may steer"
+            yield Warned("nav.sources", self.accepted.place("nav", "sources") or self.accepted.place("nav", "group"), why)
+
+    def plotters_that_are_taken(self):
+        return [who for who in self.heard.sayers_of(NAVIGATION) if self.is_taken(who[1], self.heard.tables[NAVIGATION])]
+
     def depths_said_twice(self):
         """Sounders that say DPT and DBT of each depth, if the configuration doesn't say what becomes of DBT."""
         both = self.sayers_on_the_network(lambda said: {"DPT", "DBT"} <= said)
@@ -131,6 +164,8 @@ class Devices:
             yield from self.of_list(f"row.{row.name}.sources", self.accepted.row(row.name).get("sources", []), self.heard.sayers(row))
         variation = self.heard.tables.get(VARIATION, {}).get("sources", [])
         yield from self.of_list("heading.sources", variation, self.heard.sayers_of(VARIATION), "no variation")
+        plotters = self.heard.tables.get(NAVIGATION, {}).get("sources", [])
+        yield from self.of_list("nav.sources", plotters, self.heard.sayers_of(NAVIGATION), "not where it goes")
 
     def of_list(self, path, patterns, sayers, lacks="nothing of this row"):
         """The devices that each pattern of a list is of; of those that aren't among the sayers it is told besides."""
@@ -187,6 +222,11 @@ class Devices:
 def named(address, name):
     """A device in a sentence."""
     return f"address {address}" + (", which never claimed," if name is None else f" ({name_text(name)}, {maker_of(name)}, {function_of(name)})")
+
+
+def all_of(devices):
+    """Several devices in a sentence."""
+    return " and ".join(named(*who) for who in devices)
 
 
 def is_gateway(name):

@@ -18,7 +18,7 @@ MOST_NAME_PARTS, LEAST_PART = 8, 2
 # how alike two such parts have to be, of 1
 ALIKE = 0.8
 # parts with a transmission group of their own
-PARTS = ("rmc", "ais", "further", "plain", "heading", "watch", "heartbeat")
+PARTS = ("rmc", "ais", "further", "plain", "heading", "nav", "watch", "heartbeat")
 # keys of these that ask for no group
 OF_NO_GROUP = frozenset(("bus_every_s",))
 

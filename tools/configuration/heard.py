@@ -6,9 +6,10 @@ from onboard.fast_packets import Joiner
 from onboard.identifiers import ADDRESS_CLAIM, ALL, NULL_ADDRESS, name_of, parts_of
 from onboard.sentences import said_by
 
-from .accepted import VARIATION
+from .accepted import NAVIGATION, VARIATION
 from .messages import fields, sources_of_quantities, sources_of_rows, variation_of_page
 from .paces import Paces
+from .plotters import Plotters
 
 MAGNETIC = ("row", "heading_magnetic")
 
@@ -29,23 +30,28 @@ class Heard:
         # who spoke, by address and NAME, and who said what is taken from devices
         self.spoke, self.said = set(), set()
         self.tables = dict(accepted.chosen())
-        default = accepted.page.default("row.R", "timeout_ms")
-        self.paces = Paces({path: 1000 * int(table.get("timeout_ms", default)) for path, table in self.tables.items()})
+        self.paces = Paces({path: 1000 * int(table.get("timeout_ms", self.default_of(path))) for path, table in self.tables.items()})
         self.watched = Paces({path: 1000 * int(table["watch_ms"]) for path, table in self.tables.items() if "watch_ms" in table})
         # who said a variation, and who said a magnetic heading without one
         self.variations, self.without_variation = set(), set()
+        self.plotters = Plotters()
         self.variation_of_heading = fields()[next(row.pgns[0] for row in accepted.page.rows if row.name == MAGNETIC[1])]["variation"]
         # of each source that the gateway hears on the network the formatters that it said
         self.formatters = {identifier: set() for identifier in accepted.root.get("net", {}).get("sources", [])}
         self.sources = self.sources_by_pgn()
         self.frames = self.error_frames = self.other_lines = 0
 
+    def default_of(self, path):
+        """The timeout of what has none: rows and further quantities have a table for each of theirs."""
+        table = {"row": "row.R", "further": "further.Q"}.get(path[0], path[0])
+        return self.accepted.page.default(table, "timeout_ms")
+
     def sources_by_pgn(self):
         """The messages that something is taken from, each with the path of what that is."""
         by_path = {("row", name): sources for name, sources in sources_of_rows(self.accepted.page.rows).items()}
         by_path.update({("further", name): sources for name, sources in sources_of_quantities(self.accepted.page.quantities).items()})
         variation, self.variation = variation_of_page()
-        by_path[VARIATION] = [variation]
+        by_path.update({VARIATION: [variation], NAVIGATION: [self.plotters.leg.source]})
         found = {}
         for path in self.tables:
             for source in by_path[path]:
@@ -95,6 +101,8 @@ class Heard:
             if source.is_said_by(message.parts.pgn, message.data):
                 self.said.add((path, *who))
                 self.variation_in(path, who, message.data)
+                if path == NAVIGATION:
+                    self.plotters.take(who, message.data)
                 self.paces.take(path, *who, moment_us)
                 if path in self.watched.timeouts_us:
                     self.watched.take(path, *who, moment_us)

@@ -3,6 +3,7 @@
 from typing import NamedTuple
 
 from .accepted import Warned
+from .keys import pattern_of
 
 LOOPBACK = "127.0.0.1"
 # a port below this is for who has a privilege to it, and the service has none
@@ -53,6 +54,11 @@ def endpoint_of(text):
     return Endpoint(host, int(port))
 
 
+def choice_of(table):
+    """Which devices are taken, in which order."""
+    return [pattern_of(pattern) for pattern in table.get("sources", [])], table.get("others", True)
+
+
 class Links:
     """The two links, and where each group goes."""
 
@@ -73,6 +79,8 @@ class Links:
         yield from self.plain_among_datagrams()
         yield from self.alerts_without_a_route()
         yield from self.headings_without_a_route()
+        yield from self.navigation_without_a_route()
+        yield from self.errors_beside_navigation()
         yield from self.heartbeats_by_themselves()
 
     def sent(self):
@@ -138,6 +146,29 @@ class Links:
             why = f"{group} has no route, so joined headings go to {self.sends['net']} like all else without one. Give it a route to who shows the true heading"
             yield Warned("heading.group", self.place("heading", "group"), why)
 
+    def navigation_without_a_route(self):
+        """Navigation goes where all goes that has no route, and a pilot's converter listens to one address."""
+        group = self.accepted.root.get("nav", {}).get("group")
+        if group is not None and group not in self.routes:
+            why = f"{group} has no route, so navigation goes to {self.sends['net']} like all else without one. Give it a route to where the pilot listens"
+            yield Warned("nav.group", self.place("nav", "group"), why)
+
+    def errors_beside_navigation(self):
+        """The row's XTE where navigation goes, though another device may be taken for it: a pilot gets the errors of two."""
+        navigation, row = self.accepted.root.get("nav", {}), self.accepted.row("cross_track")
+        if "group" not in navigation or choice_of(row) == choice_of(navigation):
+            return
+        group = row.get("group", self.accepted.value("gateway", "group"))
+        target = self.target(group)
+        if target == self.target(navigation["group"]):
+            place = self.place("row", "cross_track", "sources") or self.place("nav", "sources") or self.place("nav", "group")
+            why = f"XTE of this row goes to {target}, as navigation does, and may be that of another plotter: nav chooses other devices"
+            yield Warned("row.cross_track.sources", place, f"{why}. Choose the same ones, or give {navigation['group']} a route of its own")
+
+    def target(self, group):
+        """Where the datagrams of a group go."""
+        return self.routes.get(group, (None, self.sends["net"]))[1]
+
     def plain_among_datagrams(self):
         """Plain sentences at an address where datagrams go: who reads the one can't read the other."""
         if self.plain is None:
@@ -145,7 +176,7 @@ class Links:
         number, target = self.routes.get(self.plain, (None, self.sends["net"]))
         place = self.place("plain", "group") if number is None else self.place("route", number - 1, "address")
         path = "plain.group" if number is None else f"route.{number}.address"
-        beside = sorted(group for group in self.accepted.groups() if self.routes.get(group, (None, self.sends["net"]))[1] == target)
+        beside = sorted(group for group in self.accepted.groups() if self.target(group) == target)
         if beside:
             why = f"plain sentences go to {target}, where the datagrams of {', '.join(beside)} go too"
         elif target in OF_DATAGRAMS:

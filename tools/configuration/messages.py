@@ -14,6 +14,11 @@ SELECTS = re.compile(r"byte (\d+)(?: bits (\d)-(\d))?: (.*)")
 VALUE = re.compile(r"\b(?:0x[0-9A-F]{2}|\d+)\b")
 # the message that joined headings take their variation from, and where it has it
 VARIATION = re.compile(r"PGN (\d{6}) \(Magnetic Variation, [^\n]* Its variation is ([ui])(\d+)@(\d+),")
+# the message in which a plotter says where it goes, and its fields that are looked at
+LEG = re.compile(r"PGN (\d{6}) \(Navigation Data\) comes as a fast packet of at least (\d+) bytes\.")
+LEG_BEARING = re.compile(r"^\| bearing of the destination from the boat \| ([ui])(\d+)@(\d+) \|", re.MULTILINE)
+LEG_REFERENCE = re.compile(r"^\| reference of both bearings \| byte (\d+) bits (\d)-(\d) \| (\d) true, (\d) magnetic;", re.MULTILINE)
+LEG_GOAL = re.compile(r"^Bytes (\d+) to (\d+), [^\n]* are the goal\.", re.MULTILINE)
 
 
 class Selector(NamedTuple):
@@ -55,6 +60,20 @@ class Field(NamedTuple):
         return value if value < (1 << 8 * self.bytes - self.is_signed) - 3 else None
 
 
+class Leg(NamedTuple):
+    """The message in which a plotter says where it goes: its least bytes, the bearing with its reference, and the bytes of the goal."""
+
+    source: Source
+    least: int
+    bearing: Field
+    reference: Selector
+    references: tuple
+    goal: slice
+
+    def is_usable(self, data):
+        return self.reference.value(data) in self.references and self.bearing.value(data) is not None
+
+
 def rows():
     return ROW.findall(text_of(FORMATS))
 
@@ -71,6 +90,16 @@ def variation_of_page():
         raise PageChanged(FORMATS, "the message of the variation isn't where it was")
     pgn, sign, bits, first = match.groups()
     return Source(int(pgn), None, ()), Field(int(first), int(bits) // 8, sign == "i")
+
+
+def leg_of_page():
+    """The message in which a plotter says where it goes."""
+    matches = [pattern.search(text_of(FORMATS)) for pattern in (LEG, LEG_BEARING, LEG_REFERENCE, LEG_GOAL)]
+    if None in matches:
+        raise PageChanged(FORMATS, "the message of navigation isn't where it was")
+    (pgn, least), (sign, bits, first), (byte, low, high, *references), (goal, last) = (match.groups() for match in matches)
+    bearing = Field(int(first), int(bits) // 8, sign == "i")
+    return Leg(Source(int(pgn), None, ()), int(least), bearing, selector_of(byte, low, high), tuple(map(int, references)), slice(int(goal), int(last) + 1))
 
 
 def selector_of(byte, first_bit, last_bit):

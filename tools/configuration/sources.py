@@ -10,7 +10,7 @@ from .patterns import covers, fields_of, turned
 OF_NEARLY_ALL = {"instance_lower": 0, "instance_upper": 0, "reserved": 0, "system_instance": 0, "industry": 4, "arbitrary": 1}
 TOP_BIT = 1 << 63
 # what is taken from devices, by the first word of its table
-TAKEN = {"row": "row", "further": "quantity", "heading": "variation"}
+TAKEN = {"row": "row", "further": "quantity", "heading": "variation", "nav": "navigation"}
 
 
 class Sources:
