@@ -1,6 +1,7 @@
 """What is worth a look first, in words at the top of the page."""
 
 from .drawing import anchor, counted, lasting, text
+from .legs import at_navigation
 from .sources import motion_in_words, words_of_rows
 from .speakers import claimed_addresses
 from .unsaid import by_reasons, few
@@ -17,7 +18,7 @@ def glance(recording, scale):
         lines.append(("Who spoke", f"{counted(recording.counts['error frames'], 'error frame')}: {kinds}"))
     if scale is not None:
         lines += at_the_bus(recording, scale)
-        lines += [("Who was heard", line) for line in at_watched_rows(recording, scale) + at_rows(recording) + at_values(recording, scale)]
+        lines += [("Who was heard", line) for line in at_watched_rows(recording, scale) + at_rows(recording) + at_navigation(recording) + at_values(recording, scale)]
     if recording.rules:
         rules = few([rule for rule, _ in recording.rules.most_common()], "")
         lines.append(("What was refused", f"{counted(sum(recording.rules.values()), 'report')}, of rule {rules}"))

@@ -9,6 +9,7 @@ from .drawing import (
     lasting, line_of, mark, rows_folded, section, stamp, table, text, wide)
 from .gathering import MANY
 from .glance import glance
+from .legs import where_it_went
 from .recording import CURVES, RATES
 from .rules import known_rules
 from .sources import beside_each_other, rows_unsaid, worth_a_look
@@ -123,7 +124,7 @@ def rows_missing(recording, scale):
 
 def who_was_heard(recording, scale):
     palette, strips = Palette(), sorted(recording.strips.items())
-    beside = rows_missing(recording, scale) + rows_unsaid(recording) + worth_a_look(recording, scale) + beside_each_other(recording, scale)
+    beside = rows_missing(recording, scale) + rows_unsaid(recording) + where_it_went(recording, scale) + worth_a_look(recording, scale) + beside_each_other(recording, scale)
     if not strips:
         return section("Who was heard", "Nothing was said of any row.", beside)
     drawn = "".join(strip_drawn(words, strip, scale, 16 + 26 * place, palette) for place, (words, strip) in enumerate(strips))

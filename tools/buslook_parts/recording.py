@@ -11,6 +11,8 @@ from onboard.identifiers import ADDRESS_CLAIM, ALL, NULL_ADDRESS, name_of, name_
 
 from .bus import Bus
 from .gathering import MOST_MARKS, Counts, Mark, Point, Series, Spans, Strip, Tally, first_of, sum_of
+from .navigation import COURSE, DISTANCE, DISTANCE_FIELD, NAVIGATION, Followed, course_of
+from .navigation import TIMEOUT_MS as PLOTTER_TIMEOUT_MS
 from .program import ITEM, SHOWN_FRAME, Frame
 from .quantities import Compared
 from .rows import Rows
@@ -24,6 +26,8 @@ Curve = collections.namedtuple("Curve", "title unit row formatter field turns do
 # of the heading group, which says no row
 COMPUTED_BY = "HDT"
 COMPUTED = Curve("heading, true, computed", "degrees", None, "", 1, True, False)
+# of the group of navigation, which says no row either
+TO_GO = Curve("distance to the destination", "nautical miles", NAVIGATION, "", DISTANCE_FIELD, False, False)
 CURVES = [
     Curve("heading, true", "degrees", "heading_true", "HDT", 1, True, False),
     COMPUTED,
@@ -38,6 +42,7 @@ CURVES = [
     Curve("wind speed, true", "knots", "wind_true", "MWV", 3, False, False),
     Curve("wind angle, true", "degrees", "wind_true", "MWV", 1, True, False),
     Curve("wind direction", "degrees", "wind_north", "MWD", 1, True, False),
+    TO_GO,
 ]
 CURVES_OF = collections.defaultdict(list)
 for one in CURVES:
@@ -142,7 +147,8 @@ class Ranks:
     """The places of devices in the lists of the configuration."""
 
     def __init__(self, config):
-        self.rows, self.network = config.get("row", {}), config.get("net", {}).get("sources", [])
+        self.rows = {**config.get("row", {}), NAVIGATION: {"timeout_ms": PLOTTER_TIMEOUT_MS, **config.get("nav", {})}}
+        self.network = config.get("net", {}).get("sources", [])
 
     def timeout_us(self, row):
         return 1000 * self.rows.get(row, {}).get("timeout_ms", TIMEOUT_MS)
@@ -180,6 +186,8 @@ class Recording:
         self.further_group = config.get("further", {}).get("group")
         # that of joined headings, whose HDG a row has said already
         self.heading_group = config.get("heading", {}).get("group")
+        # that of plotters, whose XTE is another one than the row's
+        self.followed, self.says_navigation = Followed(config), False
         self.begin = self.end = None
         self.bus = self.compared = self.rates = None
         self.counts, self.rules = collections.Counter(), collections.Counter()
@@ -211,9 +219,11 @@ class Recording:
             self.counts["ticks"] += 1
         elif items and not items[0].startswith(b"rule "):
             self.datagram(items)
+        self.says_navigation = False
         rows_said = self.emitted(number, line, items, parts, emits)
         if frame is not None and not is_passed_over:
             self.row_frame(moment, frame, parts, rows_said)
+            self.plotter_frame(frame, parts, emits)
             self.begins(number, line, parts, frame)
 
     def reach(self, moment):
@@ -245,6 +255,12 @@ class Recording:
             return
         rows_empty = self.compared.message(moment, message, rows_said)
         self.unsaid.message(message, self.addresses.holder_of(parts.source), rows_said, rows_empty)
+
+    def plotter_frame(self, frame, parts, emits):
+        """A frame in which a plotter says where it goes, if that is asked for, and the reports that it gave."""
+        if self.followed.navigation.is_of_plotter(parts.pgn):
+            is_refused = any(match.group(3) is not None and b"pgn=%d" % parts.pgn in (match.group(4) or b"") for match in emits)
+            self.followed.take(frame.read(), self.addresses.holder_of(parts.source), self.says_navigation, is_refused)
 
     def error(self, line):
         """A line that is refused may be an error frame, which tells what is wrong with the cable."""
@@ -299,7 +315,7 @@ class Recording:
                 says_further |= group == self.further_group
                 self.sent_to_network(group, bytes.fromhex(match.group(8).decode()), parts, rows_said)
         # each of several further quantities of a message has a datagram
-        self.counts["messages said to the network"] += says_further
+        self.counts["messages said to the network"] += says_further + self.says_navigation
         return rows_said
 
     def reported(self, number, line, items, rule, detail):
@@ -345,8 +361,9 @@ class Recording:
         """A datagram for a transmission group, by the frame that it comes of; the rows that it says are added to those that are."""
         self.count("datagrams to the network")
         sentences = [sentence.decode() for sentence in SENT_LINE.findall(datagram)]
-        is_further, is_joined = group == self.further_group, group == self.heading_group
-        is_of_rows = not is_further and not is_joined
+        is_further, is_joined, is_navigation = (group == other for other in (self.further_group, self.heading_group, self.followed.navigation.group))
+        self.says_navigation |= is_navigation
+        is_of_rows = not (is_further or is_joined or is_navigation)
         self.counts["messages said to the network"] += is_of_rows and any(sentence[3:6] in self.rows.formatters for sentence in sentences)
         for sentence in sentences:
             self.counts["sentences to the network"] += 1
@@ -356,6 +373,8 @@ class Recording:
                 self.said_further(fields, source)
             elif is_joined:
                 self.said_joined(fields, source)
+            elif is_navigation:
+                self.said_navigation(fields, source)
             else:
                 rows_said.add(self.said(fields, source))
 
@@ -378,6 +397,15 @@ class Recording:
             if source is not None and fields[COMPUTED.field]:
                 device = self.ranks.of_device("heading_magnetic", source, self.addresses.holders.get(source))
                 self.strip(COMPUTED.title, self.ranks.timeout_us("heading_magnetic")).say(self.end, device)
+
+    def said_navigation(self, fields, source):
+        """A sentence of the group of navigation that went out; what XTE says is in APB too."""
+        if fields[0][3:] == DISTANCE:
+            self.valued(TO_GO, fields[TO_GO.field])
+        elif fields[0][3:] == COURSE and source is not None:
+            device = self.ranks.of_device(NAVIGATION, source, self.addresses.holders.get(source))
+            self.strip(NAVIGATION, self.ranks.timeout_us(NAVIGATION)).say(self.end, device)
+            self.followed.say(self.end, device, course_of(fields))
 
     def said(self, fields, source):
         """A sentence that went out, and the row that it says."""
