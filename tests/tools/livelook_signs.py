@@ -1,4 +1,4 @@
-"""What livelook makes of rows under watch, of the gateway's sign of life, and of a heading that the gateway computes."""
+"""What livelook makes of rows under watch, of the gateway's sign of life, of a heading that the gateway computes, and of plotters."""
 
 import time
 
@@ -9,6 +9,8 @@ from livelook_parts.following import Follower
 from livelook_parts.gathered import COMPUTED, Gathered, beat_seconds_of
 from livelook_parts.looking import Looking
 from livelook_parts.status import Status
+from onboard.fast_packets import Message, Splitter
+from onboard.identifiers import ALL, Parts
 from onboard.sentences import HEADER
 from onboard.words import Teller
 
@@ -56,4 +58,49 @@ def try_joined():
     wanted(f"the heading group is said {computed.count} times", computed.count == 2)
 
 
-SIGNS = (try_signs, try_joined)
+def leg(source, bearing="B93E"):
+    """The frames of a message in which a plotter says where it goes."""
+    payload = bytes.fromhex(f"FF38DF220000FFFFFFFFFFFF5C3D{bearing}0300000004000000CE175C22EF0597080202")
+    frames = Splitter().frames_of(Message(Parts(3, 129284, source, ALL), payload))
+    return [Frame(b"can0", frame.identifier, frame.data.hex().upper().encode()) for frame in frames]
+
+
+APB, XTE, RMB = b"$GPAPB,A,A,0.100,L,N,V,V,90.0,T,4,92.0,T,92.0,T,A*73", b"$GPXTE,A,A,0.100,L,N,A*32", b"$GPRMB,A,0.100,L,3,4,5738.7645,N,01424.6911,E,12.3,92.0,9.99,V,A*5A"
+WITHOUT_ERROR = b"$GPAPB,V,V,,,N,V,V,90.0,T,4,92.0,T,92.0,T,N*1F", b"$GPXTE,V,V,,,N,N*5E"
+
+
+def try_plotters():
+    """Where a plotter leads, or why nothing is said of it; its XTE is none of the row."""
+    looking = Looking(Follower("run.log", Teller("livelook")), "shipgate", "boat.toml", Teller("livelook"))
+    looking.gathered, status = Gathered({"gateway": CONFIG["gateway"], "nav": {"group": "NAVG", "timeout_ms": 2000}}), Status(looking)
+    gathered = looking.gathered
+    gathered.event(MOMENT, Frame(b"can0", 0x18EEFF17, b"0500C0FF008C78C0"), None, [])
+    gathered.event(MOMENT, Frame(b"can0", 0x18EEFF18, b"0600C0FF008C78C0"), None, [])
+    looking.last_line_at = time.monotonic()
+
+    def heard(second, frames, *sentences):
+        datagram = HEADER + b"".join(b"\\s:II0001,n:1*01\\%b\r\n" % sentence for sentence in sentences)
+        line = b"(%d.000000) udp0 NAVG#%b\n" % (MOMENT // SECOND + second, datagram.hex().upper().encode())
+        for place, frame in enumerate(frames, 1):
+            is_last = place == len(frames) and sentences
+            gathered.event(MOMENT + second * SECOND, frame, None, [REPLAYED.fullmatch(line)] if is_last else [])
+        return [(one["address"], one["what"], one["leads"]) for one in status.values()["plotters"]]
+
+    once = "named the destination for the first time"
+    wanted("no plotter is heard", status.values()["plotters"] == [])
+    wanted("a destination that is named once", heard(1, leg(23)) == [(23, once, False)])
+    wanted("a plotter that leads", heard(2, leg(23), RMB, APB, XTE) == [(23, "leads to 4", True)])
+    row, = status.values()["others"]
+    values = [["steer to port", "0.100", "nautical miles"], ["to go", "92.0", "degrees"], ["to go", "12.3", "nautical miles"]]
+    wanted(f"what a pilot is told is {row}", (row["words"], row["values"], row["timeout"], row["source"]["address"]) == ("navigation", values, 2.0, 23))
+    wanted("the row has the XTE of a plotter", gathered.rows["cross_track"].moment is None)
+    found = heard(3, leg(24)), heard(4, leg(24)), heard(5, leg(24, bearing="FFFF")), heard(6, leg(25))
+    whys = [[what for address, what, _ in one if address != 23] for one in found]
+    beside = ["said it beside a better plotter"], ["had no bearing, beside another plotter"], ["had no bearing, beside another plotter", "never claimed"]
+    wanted(f"another plotter is told as {whys}", whys == [[once], *beside])
+    found = heard(7, leg(23), *WITHOUT_ERROR)[0]
+    wanted(f"a plotter without an error is told as {found}", found == (23, "leads to 4, and no pilot can follow: no fresh error of its own", True))
+    wanted("what no pilot follows is shown", status.values()["others"][0]["values"] == [] and status.values()["others"][0]["count"] == 2)
+
+
+SIGNS = (try_signs, try_joined, try_plotters)

@@ -1,19 +1,23 @@
 """What a run does, gathered event by event: values, devices, reports and counts. All of it has a limit, so that memory doesn't grow."""
 
 import collections
+from typing import NamedTuple
 
 from bus_names import function_of, maker_of
 from buslook_parts.bus import PRODUCT_TEXTS, TEXT_BYTES, Message, text_of
+from buslook_parts.navigation import COURSE, DISTANCE, DISTANCE_FIELD, NAVIGATION, Navigation, course_of
+from buslook_parts.navigation import TIMEOUT_MS as PLOTTER_TIMEOUT_MS
 from buslook_parts.program import Frame
 from buslook_parts.recording import SENT_LINE, TIMEOUT_MS
 from buslook_parts.rows import Rows
+from buslook_parts.unsaid import NEVER_CLAIMED, UNCLAIMED
 from configuration.keys import Page
 from onboard.fast_packets import Joiner
 from onboard.identifiers import ADDRESS_CLAIM, ALL, NULL_ADDRESS, PRODUCT_INFORMATION, name_of, name_text, parts_of
 
 from .holders import BACK, MISSED, SOURCE, Change, Changes, Holders
 from .sent import Sent
-from .values import further_of, values_of
+from .values import further_of, value_of, values_of
 
 SECOND_US = 1_000_000
 # rates are of so many seconds; the line of a value of so many cells, each of so many seconds
@@ -80,6 +84,14 @@ class Speaker:
         self.rate, self.moment, self.product = Rate(), None, ""
 
 
+class Plotter(NamedTuple):
+    """What came of a plotter's last message: when it was, where it leads or why nothing was said of it, and which of the two."""
+
+    moment: int
+    words: str
+    leads: bool
+
+
 class Carried:
     """A row that the gateway sent to the bus: the values of the last message, when it was, and the sources of the datagram that it came of."""
 
@@ -112,6 +124,9 @@ class Gathered:
         self.rows = {row.name: self._said(row.name, row.words, tables[0]) for row in page.rows}
         self.further_group = tables[1].get("group")
         self.heading_group = config.get("heading", {}).get("group")
+        # where plotters lead; what was said of it at this event, by sentences
+        self.navigation, self.plotters, self.led = Navigation(config), {}, {}
+        self.plotter_timeout_us = 1000 * config.get("nav", {}).get("timeout_ms", PLOTTER_TIMEOUT_MS)
         self.beat_seconds = beat_seconds_of(config.get("heartbeat", {}))
         self.further = {name: self._said(name, name.replace("_", " "), tables[1]) for name in page.quantities}
         # if rows are under watch, these alone have to be there
@@ -145,7 +160,7 @@ class Gathered:
         """An event: its frame or its datagram, if it is one, and what `replay` gives at it."""
         self.reach(max(moment, self.moment or 0))
         second = self.moment // SECOND_US
-        source = None
+        source, is_passed_over, self.led = None, False, {}
         if frame is not None or datagram is not None:
             self.heard = self.moment
         if frame is not None:
@@ -162,6 +177,18 @@ class Gathered:
                 self._sent_frame(second, Frame(b"can0", int(match.group(5), 16), match.group(6)), datagram)
             else:
                 self._sent(second, match.group(7).decode(), bytes.fromhex(match.group(8).decode()), source)
+        if frame is not None and not is_passed_over and self.navigation.is_of_plotter(parts.pgn):
+            self._plotter(frame, parts, emits)
+
+    def _plotter(self, frame, parts, emits):
+        """A frame in which a plotter says where it goes, with the sentences that were said of it, and the reports that it gave."""
+        is_refused = any(match.group(3) is not None and b"pgn=%d" % parts.pgn in (match.group(4) or b"") for match in emits)
+        told = self.navigation.take(frame.read(), self.addresses.holder_of(parts.source), COURSE in self.led, is_refused)
+        if self.led:
+            self._other(NAVIGATION, self.plotter_timeout_us).say(self.moment, course_values(self.led), parts.source)
+        if told is not None:
+            why = NEVER_CLAIMED if told.why == UNCLAIMED else told.why
+            self.plotters[parts.source] = Plotter(self.moment, why or course_of(self.led[COURSE]).words(), why is None)
 
     def _frame(self, second, frame, parts, is_passed_over):
         speaker = self.speakers.get(parts.source)
@@ -204,6 +231,8 @@ class Gathered:
                     self.further[quantity].say(self.moment, values, source)
             elif group == self.heading_group:
                 self._said_joined(fields, source)
+            elif group == self.navigation.group:
+                self.led[fields[0][3:]] = fields
             else:
                 self._said_row(fields, source)
 
@@ -227,9 +256,9 @@ class Gathered:
         elif formatter == "RMC":
             self._other(JOINED).say(self.moment, [], None)
 
-    def _other(self, words):
+    def _other(self, words, timeout_us=1000 * TIMEOUT_MS):
         if words not in self.others:
-            self.others[words] = Said(words, words, 1000 * TIMEOUT_MS, False)
+            self.others[words] = Said(words, words, timeout_us, False)
         return self.others[words]
 
     def _sent_frame(self, second, frame, datagram):
@@ -288,6 +317,16 @@ class Gathered:
     def device(self, address):
         """Who has an address, as it is shown."""
         return {"address": address, **named(self.addresses.holder_of(address))}
+
+
+def course_values(led):
+    """What a pilot is told, by the sentences: the error, the bearing of the destination and its distance; none that it doesn't follow."""
+    course = course_of(led[COURSE])
+    if not course.is_good:
+        return []
+    bearing = value_of("to go", course.bearing, "degrees" if course.letter == "T" else "degrees magnetic")
+    distance = led[DISTANCE][DISTANCE_FIELD] if DISTANCE in led else ""
+    return [*values_of("cross_track", led["XTE"]), bearing, *([value_of("to go", distance, "nautical miles")] if distance else [])]
 
 
 def named(name):

@@ -145,6 +145,7 @@ const often = count => count > 1 ? ', ' + count + ' times' : '';
 
 function showTables() {
   fill('network', said.to_bus.map(one => [cell(one.words), cell(one.values.map(valueText).join('; ') || 'no value'), cell(one.source), cell(lasting(age(one.moment)) + ' ago')]));
+  fill('plotters', said.plotters.map(one => [cell(one.address), cell(device(one), 'long'), cell(one.what, one.leads ? 'long' : 'long source'), cell(lasting(age(one.moment)) + ' ago')]));
   fill('devices', said.devices.map(one => [cell(one.address), cell(device(one) + (one.product ? ', ' + one.product : ''), one.claimed ? 'long' : 'alarm'), cell(one.name, 'wide'),
     cell(lasting(age(one.moment)) + ' ago'), cell(one.rate.toFixed(1), 'wide')])
     .concat(said.more_devices ? [[cell(''), cell(said.more_devices + ' more addresses')]] : []));

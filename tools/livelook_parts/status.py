@@ -24,7 +24,7 @@ METRICS = (
 )
 NOT_SENT, NOT_RECEIVED = 50, 51
 FAILURES = {NOT_SENT: "not sent", NOT_RECEIVED: "not received"}
-MOST_DEVICES, MOST_REFUSED = 100, 25
+MOST_DEVICES, MOST_REFUSED, MOST_PLOTTERS = 100, 25, 10
 LINKS = ("bus", "net")
 
 
@@ -142,6 +142,7 @@ class Status:
             devices=[self.speaker(address) for address in sorted(gathered.speakers)[:MOST_DEVICES]],
             more_devices=max(0, len(gathered.speakers) - MOST_DEVICES), refused=[self.refused(one) for one in reported],
             changes=[self.change(*one) for one in gathered.changes.newest()], to_bus=[self.carried(*one) for one in gathered.to_bus.items()],
+            plotters=[self.plotter(address) for address in sorted(gathered.plotters)[:MOST_PLOTTERS]],
             rates=self.rates(), failures=[self.failure(*one) for one in sorted(gathered.failures.items())])
         return found
 
@@ -170,6 +171,10 @@ class Status:
     def carried(name, one):
         values = [[value.words, value.text, value.unit] for value in one.values]
         return {"name": name, "words": one.words, "values": values, "source": one.source, "moment": seconds(one.moment), "count": one.count}
+
+    def plotter(self, address):
+        plotter = self.looking.gathered.plotters[address]
+        return {**self.looking.gathered.device(address), "what": plotter.words, "leads": plotter.leads, "moment": seconds(plotter.moment)}
 
     def change(self, change, moment, times):
         row = self.looking.gathered.rows.get(change.row)
