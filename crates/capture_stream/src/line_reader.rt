@@ -156,6 +156,7 @@ impl LineReader {
     }
 
     /// Takes the next line that has come whole. Nearly every line is read as the usual one where it lies, and so needs no search for its end.
+    #[inline(always)]
     pub(crate) fn advance(&mut self) -> Next
         ensures { Advances self.old self.new result }
     {
@@ -169,6 +170,7 @@ impl LineReader {
     }
 
     // The moment and the frame of the usual line, where the unread bytes begin with one and its LF.
+    #[inline(always)]
     fn usual(&self) -> Option<(u64, Frame)>
         ensures { IfSome result (λ t. BeginsUsual self.now t.0 t.1) }
     {
